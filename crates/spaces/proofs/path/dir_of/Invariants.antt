@@ -1,0 +1,9 @@
+use Rattle.std.proofs.Common.{◌≡◌, ◌+◌, ◌≤◌, not, ◌==◌, take, length}
+use Rattle.std.specs.List.{suffix_len}
+use Rattle.spaces.proofs.path.dir_of.Given as goal
+
+abbrev pub invariant-loop-end : goal.invariant-loop-end
+invariant-loop-end l = record { within : l.«end» ≤ length l.path; left : l.«end» + suffix_len (λ byte. not (byte == 47)) l.path ≡ length l.path + suffix_len (λ byte. not (byte == 47)) (take l.«end» l.path) }
+
+abbrev pub decreases-loop-end : goal.decreases-loop-end
+decreases-loop-end l = l.«end»

@@ -1,0 +1,35 @@
+-- When two terms of Digest are the same.
+use Rattle.std.specs.Prelude.{ℕ, Bool, true, false, ◌&&◌, List, bytes_eq}
+use Rattle.std.specs.declared.option.Option.{Option}
+use Rattle.std.specs.Prelude.{Some, None}
+use Rattle.spaces.specs.declared.terms.Algorithm.{Algorithm}
+use Rattle.spaces.specs.declared.terms.Algorithm.TheVariants.{Md5, Sha256}
+use Rattle.spaces.specs.declared.terms.Qop.{Qop}
+use Rattle.spaces.specs.declared.terms.Qop.TheVariants.{Auth, Missing}
+use Rattle.spaces.specs.declared.terms.Terms.{Terms}
+
+abbrev pub same_algorithm : Algorithm → Algorithm → Bool
+same_algorithm Md5 Md5 = true
+same_algorithm Sha256 Sha256 = true
+same_algorithm _ _ = false
+
+abbrev pub same_qop : Qop → Qop → Bool
+same_qop Auth Auth = true
+same_qop Missing Missing = true
+same_qop _ _ = false
+
+abbrev pub same_said : Bool → Bool → Bool
+same_said true true = true
+same_said false false = true
+same_said _ _ = false
+
+abbrev pub same_opaque : Option (List ℕ) → Option (List ℕ) → Bool
+same_opaque None None = true
+same_opaque (Some a) (Some b) = bytes_eq a b
+same_opaque _ _ = false
+
+-- all parts are the same: also whether the algorithm was said
+abbrev pub same_terms : Terms → Terms → Bool
+same_terms a b =
+    same_algorithm a.algorithm b.algorithm && same_said a.said b.said && bytes_eq a.realm b.realm && bytes_eq a.nonce b.nonce
+    && same_opaque a.opaque b.opaque && same_qop a.qop b.qop
