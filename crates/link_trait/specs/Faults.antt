@@ -37,5 +37,6 @@ pub record Counted : Type 0 where
 -- one more call was made, and failed where it is listed
 abbrev pub counted : Counted → Counted
 counted counts = record {
-    schedule = one_more counts.schedule;
-    faults = if next_fails counts.schedule then counts.faults + 1 else counts.faults }
+  schedule = one_more counts.schedule;
+  faults = if next_fails counts.schedule then counts.faults + 1 else counts.faults;
+}

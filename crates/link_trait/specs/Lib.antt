@@ -1,3 +1,6 @@
 pub mod Faults
 pub mod Streams
 pub mod Told
+pub mod Prompts
+pub mod Links
+pub mod Recorded

@@ -61,4 +61,11 @@ impl Answers {
     {
         self.answers.push(answer)
     }
+
+    /// The answers, in order.
+    pub(crate) fn as_slice(&self) -> &[(Space, Option<Identity>)]
+        ensures { result.now ≡ self.now }
+    {
+        self.answers.as_slice()
+    }
 }

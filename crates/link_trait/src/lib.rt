@@ -4,16 +4,23 @@
 
 mod answers;
 mod calls;
+mod dialer;
 mod links;
+mod log;
 mod memory;
 mod prompts;
+mod recorded;
+mod scripts;
 mod steps;
 mod streams;
 
 pub use answers::Answers;
 pub use calls::Calls;
-pub use links::{LinkName, Links};
+pub use dialer::{Dial, Dialed, Dialer, Traffic, Wrote};
+pub use links::{LinkName, Links, same_link};
 pub use memory::{MemSink, MemSource};
-pub use prompts::AskSeen;
+pub use prompts::{Ask, AskSeen, Asked, Prompter};
+pub use recorded::RecordedDialer;
+pub use scripts::{FailingPrompter, ScriptPrompter};
 pub use steps::{Step, StepSeen, Steps};
 pub use streams::{Got, Sink, Source, Took};
