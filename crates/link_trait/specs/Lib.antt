@@ -4,3 +4,4 @@ pub mod Told
 pub mod Prompts
 pub mod Links
 pub mod Recorded
+pub mod Tokens

@@ -13,6 +13,7 @@ mod recorded;
 mod scripts;
 mod steps;
 mod streams;
+mod tokens;
 
 pub use answers::Answers;
 pub use calls::Calls;
@@ -24,3 +25,4 @@ pub use recorded::RecordedDialer;
 pub use scripts::{FailingPrompter, ScriptPrompter};
 pub use steps::{Step, StepSeen, Steps};
 pub use streams::{Got, Sink, Source, Took};
+pub use tokens::{NoTokens, TokenCall, Tokens};
