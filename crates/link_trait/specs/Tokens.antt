@@ -1,5 +1,5 @@
 -- What providers of tokens answer.
-use Rattle.std.specs.Prelude.{ℕ, Bool, true, false, ◌≡◌, ◌⊎◌, ◌==◌, List, [], ◌∷◌, filter, length, slice_get, unwrap_or}
+use Rattle.std.specs.Prelude.{ℕ, Bool, true, false, ◌≡◌, ◌⊎◌, ◌==◌, List, [], ◌∷◌, filter, length, slice_get, unwrap_or, if◌then◌else◌}
 use Rattle.std.specs.List.{list_all}
 use Rattle.std.specs.declared.option.Option.{Option}
 use Rattle.std.specs.declared.option.Option.TheVariants.{None, Some}
@@ -10,17 +10,19 @@ use Rattle.link_trait.specs.declared.steps.Step.TheVariants.{NoMechanism, Failed
 use Rattle.link_trait.specs.declared.tokens.TokenCall.{TokenCall}
 use Rattle.link_trait.specs.declared.tokens.TokenCall.TheVariants.{Started, WentOn}
 
+-- the call was answered: it didn't fail, and there was memory
+abbrev pub is_answered : Step → Bool
+is_answered Failed = false
+is_answered NoMemory = false
+is_answered step = true
+
 -- an answered start is told, with its arguments and its step
 abbrev pub starting : Step → ℕ → List ℕ → Option Login → List TokenCall
-starting Failed request spn identity = []
-starting NoMemory request spn identity = []
-starting step request spn identity = Started request spn identity step ∷ []
+starting step request spn identity = if is_answered step then Started request spn identity step ∷ [] else []
 
 -- an answered step onward is told, with its arguments and its step
 abbrev pub going_on : Step → ℕ → List ℕ → List TokenCall
-going_on Failed request token = []
-going_on NoMemory request token = []
-going_on step request token = WentOn request token step ∷ []
+going_on step request token = if is_answered step then WentOn request token step ∷ [] else []
 
 -- a call takes a step of the script, unless there is no memory
 abbrev pub taking : Step → ℕ → List ℕ

@@ -1,8 +1,7 @@
 //! A dialer of recorded links: what each peer sends is given beforehand, and what was dialed,
 //! written and read is kept.
 
-ghost use Rattle.std.specs.Prelude.{◌≡◌, [], drop, option_copied};
-ghost use Rattle.spaces.specs.Sites.{numbered};
+ghost use Rattle.std.specs.Prelude.{◌≡◌, [], drop};
 ghost use Rattle.link_trait.specs.Links.{same_link, stream_in};
 
 use crate::calls::{Calls, Failures};
@@ -10,8 +9,8 @@ use crate::dialer::{Dialed, Dialer, Wrote};
 use crate::links::{LinkName, Links};
 use crate::log::LinkLog;
 use crate::memory::copy_front;
+use crate::numbering::numbered;
 use crate::streams::Got;
-use auth_text::Items;
 use spaces::Origin;
 use std::alloc::Global;
 use std::cmp;
@@ -32,16 +31,6 @@ impl Model for RecordedDialer {
     ghost Value = { RecordedState };
 
     ghost view = { λ it. record { links = it.links; log = it.log; counts = it.failures } };
-}
-
-// The item of that number, counted from 1.
-fn numbered<T>(items: &Items<T>, number: u32) -> Option<&T>
-    ensures { option_copied result ≡ numbered items.now number }
-{
-    match number {
-        0 => None,
-        _ => items.get(number as usize - 1),
-    }
 }
 
 fn stream_in(links: &Links, name: LinkName) -> &[u8]

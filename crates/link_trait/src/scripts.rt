@@ -31,7 +31,7 @@ fn answer_in<'a>(
     None
 }
 
-fn copy_identity(identity: Option<&Identity>) -> Result<Option<Identity>, NoMemory>
+pub(crate) fn copy_identity(identity: Option<&Identity>) -> Result<Option<Identity>, NoMemory>
     ensures { IfOk result (λ copy. copy ≡ option_copied identity.entry) }
 {
     match identity {
