@@ -34,7 +34,7 @@ flat done current ps = record {
 extend_none : (body : Body) → extend body [] ≡ body
 extend_none body = refl
 
-extend_more : (body : Body) (p : Param) (ps : List Param) → extend (extend body (p ∷ [])) ps ≡ extend body (p ∷ ps)
+pub extend_more : (body : Body) (p : Param) (ps : List Param) → extend (extend body (p ∷ [])) ps ≡ extend body (p ∷ ps)
 extend_more NoBody p [] = refl
 extend_more NoBody p (q ∷ ps) = refl
 extend_more (Params kept) p [] = refl

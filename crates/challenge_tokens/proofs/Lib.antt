@@ -4,3 +4,8 @@ pub mod CutLemmas
 pub mod TrimLemmas
 pub mod StepLemmas
 pub mod FormLemmas
+pub mod EdgeLemmas
+pub mod SpellingLemmas
+pub mod SpellingWalk
+pub mod SpelledFields
+pub mod WritingLemmas

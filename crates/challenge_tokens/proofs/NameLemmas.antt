@@ -12,11 +12,11 @@ pub both : (a b : Bool) → (a && b) ≡ true → (a ≡ true) × (b ≡ true)
 both true b h = (refl, h)
 both false b h = absurd (false≢true h)
 
-none_of : (a b : Bool) → (a || b) ≡ false → (a ≡ false) × (b ≡ false)
+pub none_of : (a b : Bool) → (a || b) ≡ false → (a ≡ false) × (b ≡ false)
 none_of false b h = (refl, h)
 none_of true b h = absurd (false≢true (sym h))
 
-eq_sym : (a b : List ℕ) → bytes_eq a b ≡ bytes_eq b a
+pub eq_sym : (a b : List ℕ) → bytes_eq a b ≡ bytes_eq b a
 eq_sym a b =
     let there = bytes_eq-Decides a b in
     let back = bytes_eq-Decides b a in

@@ -5,4 +5,5 @@ pub mod Forms
 pub mod Names
 pub mod Pieces
 pub mod Reading
+pub mod Spelling
 pub mod Writing

@@ -12,7 +12,7 @@ mod write;
 
 pub use challenge::{Body, Challenge, Challenges, FieldRead};
 pub use field::read_field;
-pub use laws::example_fields;
+pub use laws::{challenge_reads_back, example_fields, spellings_are_read, token68_reads_back};
 pub use params::{Param, Params};
 pub use write::{write_challenge, write_token68};
 
