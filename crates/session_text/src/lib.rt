@@ -3,6 +3,7 @@
 
 mod counts;
 mod cut;
+mod first_path;
 mod line;
 mod session;
 #[cfg(test)]
@@ -11,5 +12,6 @@ mod values;
 mod word;
 
 pub use counts::counts_of;
+pub use first_path::first_path_leaves;
 pub use session::{Session, SessionFault, What, read_session};
 pub use word::{read_word, word_law, write_word};
