@@ -1,1 +1,10 @@
+pub mod ChunkedBodies
+pub mod Feeding
+pub mod HeaderFields
+pub mod Lines
+pub mod Replies
 pub mod RequestHeads
+pub mod ResponseHeads
+pub mod Rows
+pub mod Steps
+pub mod Within

@@ -2,8 +2,18 @@
 //! pieces of a stream.
 #![tactic(auto)]
 
+mod chunked_body;
+mod framing;
+mod header_fields;
+mod laws;
+mod lines;
+mod plain;
+mod reader;
 mod reply;
 mod request_head;
+mod response_head;
 
+pub use laws::{limits, worked};
+pub use reader::{At, Fed, ReplyReader};
 pub use reply::{Fields, Reply, WireFault};
 pub use request_head::{HeadParts, write_head};
