@@ -1,8 +1,16 @@
 pub mod ChunkLemmas
+pub mod ChunkPlaces
 pub mod CutLemmas
 pub mod HeadLemmas
+pub mod HeadLengthLemmas
 pub mod LineLemmas
+pub mod MoveLemmas
 pub mod NumberLemmas
+pub mod PlaceLemmas
 pub mod ProgressLemmas
+pub mod ReadingStates
+pub mod RunLemmas
+pub mod StateLemmas
 pub mod StatusLineLemmas
 pub mod TrimLemmas
+pub mod UsedLemmas

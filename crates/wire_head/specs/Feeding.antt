@@ -1,5 +1,5 @@
 -- What a reader answers to its pieces.
-use Rattle.std.specs.Prelude.{◌≡◌, ℕ, ◌-◌, List, ⊤, Option, Some, None, Result, Ok, Err}
+use Rattle.std.specs.Prelude.{◌≡◌, ℕ, ◌+◌, ◌≤◌, List, ⊤, Option, Some, None, Result, Ok, Err}
 use Rattle.spaces.specs.declared.roster.Method.{Method}
 use Rattle.wire_head.specs.declared.reply.Reply.{Reply}
 use Rattle.wire_head.specs.declared.reply.WireFault.{WireFault}
@@ -18,7 +18,7 @@ IsFed r method fed = (r.method ≡ method) × (r.bytes ≡ fed)
 
 abbrev pub IsAnswerAt : Result (Option (Reply × ℕ)) WireFault → ℕ → ℕ → ℕ → At → Type 0
 IsAnswerAt told before len used More = (told ≡ Ok None) × (used ≡ len)
-IsAnswerAt told before len used (Whole reply) = (n : ℕ) × (told ≡ Ok (Some (reply, n))) × (used ≡ n - before)
+IsAnswerAt told before len used (Whole reply) = (told ≡ Ok (Some (reply, before + used))) × (used ≤ len)
 IsAnswerAt told before len used (Fault fault) = told ≡ Err fault
 IsAnswerAt told before len used NoMemory = ⊤
 

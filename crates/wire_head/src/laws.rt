@@ -1,11 +1,18 @@
-ghost use Rattle.std.specs.Prelude.{◌≡◌, ◌++◌, [], ◌∷◌, codes, true, Some, None, List, ℕ, length, ◌<◌};
-ghost use Rattle.wire_head.specs.Replies.{progress};
+//! What the definition of a reply says as a whole, and of some texts.
+
+ghost use Rattle.std.specs.Prelude.{◌≡◌, ◌++◌, [], ◌∷◌, codes, Bool, true, false, Some, None, Ok, List, ℕ, length, ◌<◌};
+ghost use Rattle.wire_head.specs.Replies.{progress, reply};
 ghost use Rattle.wire_head.specs.Lines.{head_len};
 ghost use Rattle.spaces.specs.declared.roster.Method.{Method};
 ghost use Rattle.wire_head.specs.Rows.{ok, with_line, chunked_row, cut_row};
 ghost use Rattle.spaces.specs.declared.roster.Method.TheVariants.{Get};
 ghost use Rattle.wire_head.specs.declared.plain.Progress.TheVariants.{Open, Whole, Fault};
 ghost use Rattle.wire_head.specs.declared.reply.WireFault.TheVariants.{BadHead, HeadTooLong, BadFraming, BodyTooLong};
+
+/// A text has one outcome: once it is decided, it stays, whatever follows and whether the stream ends.
+pub fn outcomes()
+    ensures stay { (method : Method) (text more : List ℕ) (ended : Bool) → ¬ (reply method text false ≡ Ok None) → reply method (text ++ more) ended ≡ reply method text false }
+{}
 
 /// Worked examples.
 pub fn worked()

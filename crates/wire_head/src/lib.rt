@@ -13,7 +13,7 @@ mod reply;
 mod request_head;
 mod response_head;
 
-pub use laws::{limits, worked};
+pub use laws::{limits, outcomes, worked};
 pub use reader::{At, Fed, ReplyReader};
 pub use reply::{Fields, Reply, WireFault};
 pub use request_head::{HeadParts, write_head};
