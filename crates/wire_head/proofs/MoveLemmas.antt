@@ -1,5 +1,5 @@
 -- One byte on from each place.
-use Rattle.std.proofs.Common.{◌≡◌, ℕ, suc, zero, ◌+◌, ◌-◌, ◌*◌, ◌<◌, ◌≤◌, Bool, true, false, cond, ◌==◌, ◌||◌, List, [], ◌∷◌, ◌++◌, length, take, drop, Option, Some, None, refl, sym, ap, ◌∙◌, arith, add-zero, zero-add}
+use Rattle.std.proofs.Common.{◌≡◌, ℕ, suc, zero, ◌+◌, ◌-◌, ◌*◌, ◌<◌, ◌≤◌, Bool, true, false, cond, ◌==◌, ◌||◌, List, [], ◌∷◌, take, drop, Option, Some, None, refl, sym, ap, ◌∙◌, arith, zero-add}
 use Rattle.std.specs.Prelude.{nat_lt}
 use Rattle.std.specs.List.{prefix_len, position_from}
 use Rattle.std.specs.Option.{option_map}
@@ -8,13 +8,12 @@ use Rattle.std.specs.Str.Parse.{digits_value_after}
 use Rattle.std.proofs.lemmas.Bool.Decides.{nat_tests}
 use Rattle.wire_head.specs.declared.lines.Front.{Front}
 use Rattle.wire_head.specs.declared.lines.Front.TheVariants.{Whole, Wrong, Part}
-use Rattle.wire_head.specs.declared.chunked_body.ChunkedBody.{ChunkedBody}
-use Rattle.wire_head.specs.declared.chunked_body.ChunkedBody.TheVariants.{Ends, Wrong as BadBody, Part as NoBody}
-use Rattle.wire_head.specs.Lines.{blank_len, end_len, or_later, head_len, line_end, after_return, behind_return as blank_behind}
-use Rattle.wire_head.specs.ChunkedBodies.{behind, up_to, size_end, size_line, size_line_of, size_of, no_digit, first_of, trailer_len, longer, chunks}
-use Rattle.wire_head.proofs.ChunkLemmas.{longer_zero, longer_longer}
+use Rattle.wire_head.specs.declared.chunked_body.ChunkedBody.TheVariants.{Ends, Wrong as BadBody}
+use Rattle.wire_head.specs.Lines.{blank_len, or_later, head_len, line_end, after_return, behind_return as blank_behind}
+use Rattle.wire_head.specs.ChunkedBodies.{behind, up_to, size_end, size_line_of, no_digit, first_of, trailer_len, longer, chunks}
+use Rattle.wire_head.proofs.ChunkLemmas.{longer_longer}
 use Rattle.wire_head.proofs.PlaceLemmas.{fresh_is}
-use Rattle.wire_head.proofs.ChunkPlaces.{Place, Fresh, Digits, Extension, SizeReturn, Bytes, BytesReturn, Trailer, TrailerReturn, TrailerLine, lf_only, trailer_then, end_then, sized, line_then, digits_line, digits_line_of, digits_size, behind_return, rest, Move, Goes, Bad, Done, sized_move, size_move, end_move, bytes_move, move, moved, IsPlace}
+use Rattle.wire_head.proofs.ChunkPlaces.{Place, Fresh, Digits, Extension, SizeReturn, Bytes, BytesReturn, Trailer, TrailerReturn, TrailerLine, lf_only, trailer_then, end_then, sized, line_then, digits_line, digits_line_of, behind_return, rest, Goes, Bad, Done, sized_move, size_move, end_move, bytes_move, move, moved, IsPlace}
 
 line_cons : (f : Front) (v b : ℕ) (t : List ℕ) → line_then (behind 1 f) v (b ∷ t) ≡ longer 1 0 (line_then f v t)
 line_cons Part v b t = refl

@@ -1,22 +1,18 @@
 -- A chunked body, byte by byte.
-use Rattle.std.proofs.Common.{◌≡◌, ℕ, suc, zero, ◌+◌, ◌-◌, ◌*◌, ◌<◌, ◌≤◌, Bool, true, false, cond, ◌==◌, ◌||◌, List, [], ◌∷◌, ◌++◌, length, take, drop, ◌⊎◌, inl, inr, Option, Some, None, refl, sym, ap, ◌∙◌, arith, add-zero, zero-add}
+use Rattle.std.proofs.Common.{◌≡◌, ℕ, suc, zero, ◌+◌, ◌-◌, ◌<◌, Bool, true, false, cond, ◌==◌, List, [], ◌∷◌, drop, Option, Some, None, refl, sym, ap, ◌∙◌, arith, add-zero}
 use Rattle.std.specs.Prelude.{nat_lt}
-use Rattle.std.specs.List.{prefix_len, position_from}
-use Rattle.std.specs.Option.{option_map}
-use Rattle.std.specs.Char.{is_ascii_hexdigit, digit_value}
-use Rattle.std.specs.Str.Parse.{digits_value_after}
+use Rattle.std.specs.List.{prefix_len}
+use Rattle.std.specs.Char.{is_ascii_hexdigit}
 use Rattle.std.proofs.lemmas.Bool.Decides.{nat_tests}
 use Rattle.std.proofs.lemmas.List.{drop-drop}
 use Rattle.wire_head.specs.declared.lines.Front.{Front}
 use Rattle.wire_head.specs.declared.lines.Front.TheVariants.{Whole, Wrong, Part}
-use Rattle.wire_head.specs.declared.chunked_body.Chunk.{Chunk}
-use Rattle.wire_head.specs.declared.chunked_body.Chunk.TheVariants.{Data, Last, Wrong as BadChunk, Part as NoChunk}
 use Rattle.wire_head.specs.declared.chunked_body.ChunkedBody.{ChunkedBody}
-use Rattle.wire_head.specs.declared.chunked_body.ChunkedBody.TheVariants.{Ends, Wrong as BadBody, Part as NoBody}
-use Rattle.wire_head.specs.Lines.{blank_len, end_len, or_later, head_len, line_end, after_return, behind_return as blank_behind}
-use Rattle.wire_head.specs.ChunkedBodies.{behind, up_to, size_end, size_line, size_line_of, size_of, no_digit, first_of, trailer_len, longer, chunk, chunk_of, data_chunk, last_chunk, chunk_rest, first_chunk, chunks}
+use Rattle.wire_head.specs.declared.chunked_body.ChunkedBody.TheVariants.{Wrong as BadBody}
+use Rattle.wire_head.specs.Lines.{line_end}
+use Rattle.wire_head.specs.ChunkedBodies.{behind, size_end, size_line, size_line_of, size_of, no_digit, trailer_len, longer, chunk_of, data_chunk, last_chunk, chunk_rest, first_chunk, chunks}
 use Rattle.wire_head.proofs.ChunkLemmas.{longer_zero, longer_longer}
-use Rattle.wire_head.proofs.ChunkPlaces.{Place, Fresh, Digits, Extension, SizeReturn, Bytes, BytesReturn, Trailer, TrailerReturn, TrailerLine, lf_only, trailer_then, end_then, sized, line_then, digits_line, digits_line_of, digits_size, behind_return, rest, Move, Goes, Bad, Done, sized_move, size_move, end_move, bytes_move, move, moved, IsPlace}
+use Rattle.wire_head.proofs.ChunkPlaces.{trailer_then, end_then, sized, line_then}
 
 -- chunks behind bytes of an earlier one, however few bytes there are
 skip : (k : ℕ) (text : List ℕ) → chunks k text ≡ longer k 0 (chunks 0 (drop k text))

@@ -1,28 +1,22 @@
 -- A reply is the fold of its bytes.
-use Rattle.std.proofs.Common.{◌≡◌, ℕ, suc, zero, ◌+◌, ◌-◌, ◌*◌, ◌<◌, ◌≤◌, Bool, true, false, cond, ◌==◌, ◌||◌, List, [], ◌∷◌, ◌++◌, length, take, drop, Option, Some, None, refl, sym, ap, ◌∙◌, arith, add-zero, zero-add, append_assoc, length-append}
-use Rattle.std.specs.Prelude.{nat_lt, nat_le, count_by, ⊤}
+use Rattle.std.proofs.Common.{◌≡◌, ℕ, ◌+◌, ◌-◌, ◌*◌, ◌<◌, ◌≤◌, Bool, true, false, cond, ◌==◌, ◌||◌, List, [], ◌∷◌, ◌++◌, length, Option, Some, None, refl, sym, ap, ◌∙◌, arith, append_assoc}
+use Rattle.std.specs.Prelude.{nat_lt, ⊤}
 use Rattle.std.specs.Char.{is_ascii_hexdigit, digit_value}
 use Rattle.std.proofs.lemmas.Bool.Decides.{nat_tests}
-use Rattle.std.proofs.lemmas.Bool.{false≢true}
-use Rattle.std.proofs.lemmas.List.{append-nil, take_all}
-use Rattle.wire_head.specs.declared.chunked_body.ChunkedBody.{ChunkedBody}
-use Rattle.wire_head.specs.declared.chunked_body.ChunkedBody.TheVariants.{Ends, Wrong as BadBody, Part as NoBody}
 use Rattle.wire_head.specs.declared.response_head.ReplyHead.{ReplyHead}
 use Rattle.spaces.specs.declared.roster.Method.{Method}
 use Rattle.wire_head.specs.declared.framing.Framing.{Framing}
 use Rattle.wire_head.specs.declared.framing.Framing.TheVariants.{Length, Chunked, ToEnd, Bad as BadFrame, TooLong}
-use Rattle.wire_head.specs.declared.reply.WireFault.TheVariants.{BadHead, HeadTooLong, BadFraming, BodyTooLong}
+use Rattle.wire_head.specs.declared.reply.WireFault.TheVariants.{HeadTooLong, BodyTooLong}
 use Rattle.wire_head.specs.declared.plain.Progress.{Progress}
-use Rattle.wire_head.specs.declared.plain.Progress.TheVariants.{Open, Whole, Fault}
-use Rattle.wire_head.specs.Lines.{head_len, line_end}
-use Rattle.wire_head.specs.ChunkedBodies.{longer, size_end}
+use Rattle.wire_head.specs.declared.plain.Progress.TheVariants.{Whole, Fault}
+use Rattle.wire_head.specs.Lines.{head_len}
 use Rattle.wire_head.specs.ResponseHeads.{reply_head}
-use Rattle.wire_head.specs.Replies.{body_limit, framing, reply_of, by_chunks, is_interim, is_too_long, heads, first_head, front_len, by_front, progress}
-use Rattle.wire_head.proofs.ProgressLemmas.{done_step}
+use Rattle.wire_head.specs.Replies.{body_limit, framing, reply_of, is_interim, is_too_long, heads, progress}
 use Rattle.wire_head.proofs.HeadLengthLemmas.{head_within}
 use Rattle.wire_head.proofs.StateLemmas.{state_step}
-use Rattle.wire_head.proofs.ChunkPlaces.{Place, Fresh, Digits, Extension, SizeReturn, Bytes, BytesReturn, Trailer, TrailerReturn, TrailerLine, rest, line_then, end_then, Move, Goes, Bad, Done, sized_move, size_move, end_move, bytes_move, move, IsPlace}
-use Rattle.wire_head.proofs.ReadingStates.{State, InHead, InLength, InOpen, InChunks, shown, StandsFor, IsState, Next, On, Over, IsNext, went, begun, by_parsed, by_blank, head_next, chunk_next, next, after, run, is_open}
+use Rattle.wire_head.proofs.ChunkPlaces.{Place, Fresh, Digits, Extension, SizeReturn, Bytes, BytesReturn, Trailer, TrailerReturn, TrailerLine, Move, Goes, Bad, Done, sized_move, size_move, end_move, move, IsPlace}
+use Rattle.wire_head.proofs.ReadingStates.{State, InHead, InLength, InOpen, InChunks, shown, StandsFor, IsState, Next, On, Over, IsNext, went, begun, by_parsed, by_blank, chunk_next, next, after, run}
 
 -- states stay states
 

@@ -1,6 +1,6 @@
 -- A reply, byte by byte.
-use Rattle.std.proofs.Common.{◌≡◌, ℕ, suc, zero, ◌+◌, ◌-◌, ◌<◌, ◌≤◌, Bool, true, false, cond, ◌==◌, List, [], ◌∷◌, ◌++◌, length, take, drop, Option, Some, None, refl, sym, ap, ◌∙◌, arith, add-zero, zero-add, append_assoc, length-append}
-use Rattle.std.specs.Prelude.{nat_lt, nat_le, ◌||◌, count_by}
+use Rattle.std.proofs.Common.{◌≡◌, ℕ, suc, ◌+◌, ◌-◌, ◌<◌, ◌≤◌, Bool, true, false, cond, ◌==◌, List, [], ◌∷◌, ◌++◌, length, take, drop, Option, Some, None, refl, sym, ap, ◌∙◌, arith, add-zero, zero-add, append_assoc, length-append}
+use Rattle.std.specs.Prelude.{nat_lt, nat_le}
 use Rattle.std.proofs.lemmas.Bool.Decides.{nat_tests}
 use Rattle.std.proofs.lemmas.List.{append-nil}
 use Rattle.std.proofs.Math.Seq.{take-append_seam, take-append-add, drop-append-add}
@@ -22,8 +22,8 @@ use Rattle.wire_head.proofs.ChunkLemmas.{longer_zero, longer_longer}
 use Rattle.wire_head.proofs.ProgressLemmas.{done_step, interim_step}
 use Rattle.wire_head.proofs.HeadLengthLemmas.{head_more, head_within, head_local}
 use Rattle.wire_head.proofs.MoveLemmas.{byte_step}
-use Rattle.wire_head.proofs.ChunkPlaces.{Place, Fresh, rest, Move, Goes, Bad, Done, move, moved, IsPlace}
-use Rattle.wire_head.proofs.ReadingStates.{State, InHead, InLength, InOpen, InChunks, shown, IsState, Next, On, Over, went, begun, by_parsed, by_blank, head_next, chunk_next, next, after, run}
+use Rattle.wire_head.proofs.ChunkPlaces.{Place, rest, Move, Goes, Bad, Done, move, moved, IsPlace}
+use Rattle.wire_head.proofs.ReadingStates.{State, InHead, InLength, InOpen, InChunks, shown, IsState, On, Over, went, begun, by_parsed, by_blank, chunk_next, next}
 
 -- bodies
 

@@ -1,6 +1,6 @@
 -- A whole reply ends where its last byte was read.
-use Rattle.std.proofs.Common.{Ok, ◌≡◌, ℕ, suc, zero, ◌+◌, ◌-◌, ◌*◌, ◌<◌, ◌≤◌, Bool, true, false, cond, ◌==◌, ◌||◌, List, [], ◌∷◌, ◌++◌, length, take, drop, Option, Some, None, refl, sym, ap, ◌∙◌, subst, arith, add-zero, zero-add, append_assoc, length-append}
-use Rattle.std.specs.Prelude.{nat_lt, nat_le, ⊤}
+use Rattle.std.proofs.Common.{Ok, ◌≡◌, ℕ, suc, zero, ◌+◌, ◌-◌, ◌<◌, ◌≤◌, Bool, true, false, cond, ◌==◌, List, [], ◌∷◌, ◌++◌, length, take, drop, Option, Some, None, refl, sym, ap, ◌∙◌, subst, arith, add-zero, length-append}
+use Rattle.std.specs.Prelude.{nat_lt, nat_le}
 use Rattle.std.proofs.lemmas.Bool.Decides.{nat_tests}
 use Rattle.std.proofs.lemmas.Bool.{false≢true, true≢false}
 use Rattle.std.proofs.lemmas.List.{append-nil, take_all}
@@ -10,19 +10,19 @@ use Rattle.spaces.specs.declared.roster.Method.{Method}
 use Rattle.wire_head.specs.declared.reply.Reply.{Reply}
 use Rattle.wire_head.specs.declared.framing.Framing.{Framing}
 use Rattle.wire_head.specs.declared.framing.Framing.TheVariants.{Length, Chunked, ToEnd, Bad as BadFrame, TooLong}
-use Rattle.wire_head.specs.declared.reply.WireFault.TheVariants.{BadHead, HeadTooLong, BadFraming, BodyTooLong}
+use Rattle.wire_head.specs.declared.reply.WireFault.TheVariants.{HeadTooLong, BodyTooLong}
 use Rattle.wire_head.specs.declared.plain.Progress.{Progress}
 use Rattle.wire_head.specs.declared.plain.Progress.TheVariants.{Open, Whole, Fault}
 use Rattle.wire_head.specs.Lines.{head_len, line_end}
 use Rattle.wire_head.specs.ResponseHeads.{reply_head}
 use Rattle.wire_head.specs.Replies.{body_limit, framing, reply_of, is_interim, is_too_long, heads, first_head, front_len, by_front, by_chunks, progress, reply, answer}
 use Rattle.wire_head.specs.declared.chunked_body.ChunkedBody.TheVariants.{Part as NoBody}
-use Rattle.wire_head.specs.declared.lines.Front.TheVariants.{Whole as WholeFront, Wrong, Part}
+use Rattle.wire_head.specs.declared.lines.Front.TheVariants.{Wrong, Part}
 use Rattle.wire_head.specs.ChunkedBodies.{longer}
 use Rattle.wire_head.proofs.ProgressLemmas.{done_step}
-use Rattle.wire_head.proofs.HeadLengthLemmas.{head_within, head_local}
+use Rattle.wire_head.proofs.HeadLengthLemmas.{head_within}
 use Rattle.wire_head.proofs.StateLemmas.{ends_behind, short_of}
-use Rattle.wire_head.proofs.RunLemmas.{state_keeps, whole_run, runs}
+use Rattle.wire_head.proofs.RunLemmas.{state_keeps, whole_run}
 use Rattle.wire_head.proofs.ChunkPlaces.{Place, Fresh, Digits, Extension, SizeReturn, Bytes, BytesReturn, Trailer, TrailerReturn, TrailerLine, rest, line_then, end_then, Move, Goes, Bad, Done, move, IsPlace}
 use Rattle.wire_head.proofs.ReadingStates.{State, InHead, InLength, InOpen, InChunks, shown, IsState, Next, On, Over, IsNext, begun, by_parsed, by_blank, chunk_next, next, after, run, is_open, IsAt, IsProgressAt, IsNextAt}
 
