@@ -1,6 +1,7 @@
 pub mod ChunkLemmas
 pub mod ChunkPlaces
 pub mod CutLemmas
+pub mod HeadBackLemmas
 pub mod HeadLemmas
 pub mod HeadLengthLemmas
 pub mod LineLemmas
@@ -9,6 +10,7 @@ pub mod NumberLemmas
 pub mod PlaceLemmas
 pub mod ProgressLemmas
 pub mod ReadingStates
+pub mod ReadLemmas
 pub mod RunLemmas
 pub mod StateLemmas
 pub mod StatusLineLemmas

@@ -28,7 +28,7 @@ token_plain b token = plain_of b (token_is_no_newline b token)
 value_plain : (b : ℕ) → IsTrue (is_value_byte b) → IsTrue (plain b)
 value_plain b value = grind (arith, nat_tests)
 
-no_lf : (b : ℕ) → IsTrue (plain b) → (b == 10) ≡ false
+pub no_lf : (b : ℕ) → IsTrue (plain b) → (b == 10) ≡ false
 no_lf b h = grind (arith, nat_tests)
 
 no_cr : (b : ℕ) → IsTrue (plain b) → (b == 13) ≡ false

@@ -3,6 +3,8 @@
 ghost use Rattle.std.specs.Prelude.{◌≡◌, ◌++◌, [], ◌∷◌, codes, Bool, true, false, Some, None, Ok, List, ℕ, length, ◌<◌};
 ghost use Rattle.wire_head.specs.Replies.{progress, reply};
 ghost use Rattle.wire_head.specs.Lines.{head_len};
+ghost use Rattle.wire_head.specs.ReadHeads.{IsHeadOf, is_fit, written};
+ghost use Rattle.wire_head.specs.declared.head_reader.ReadHead.{ReadHead};
 ghost use Rattle.spaces.specs.declared.roster.Method.{Method};
 ghost use Rattle.wire_head.specs.Rows.{ok, with_line, chunked_row, cut_row};
 ghost use Rattle.spaces.specs.declared.roster.Method.TheVariants.{Get};
@@ -12,6 +14,12 @@ ghost use Rattle.wire_head.specs.declared.reply.WireFault.TheVariants.{BadHead, 
 /// A text has one outcome: once it is decided, it stays, whatever follows and whether the stream ends.
 pub fn outcomes()
     ensures stay { (method : Method) (text more : List ℕ) (ended : Bool) → ¬ (reply method text false ≡ Ok None) → reply method (text ++ more) ended ≡ reply method text false }
+{}
+
+/// A head that was written of fit parts reads back, whatever follows it, and no other parts have it.
+pub fn heads_read_back()
+    ensures back { (h : ReadHead) (rest : List ℕ) → is_fit h ≡ true → IsHeadOf (written h ++ rest) (record h { length = length (written h) }) }
+    ensures one { (bytes : List ℕ) (g h : ReadHead) → IsHeadOf bytes g → IsHeadOf bytes h → g ≡ h }
 {}
 
 /// Worked examples.

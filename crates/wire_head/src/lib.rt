@@ -4,6 +4,7 @@
 
 mod chunked_body;
 mod framing;
+mod head_reader;
 mod header_fields;
 mod laws;
 mod lines;
@@ -12,8 +13,11 @@ mod reader;
 mod reply;
 mod request_head;
 mod response_head;
+#[cfg(test)]
+mod tests;
 
-pub use laws::{limits, outcomes, worked};
+pub use head_reader::{HeadFault, ReadHead, read_head};
+pub use laws::{heads_read_back, limits, outcomes, worked};
 pub use reader::{At, Fed, ReplyReader};
 pub use reply::{Fields, Reply, WireFault};
 pub use request_head::{HeadParts, write_head};

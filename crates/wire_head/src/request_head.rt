@@ -127,13 +127,14 @@ mod tests {
             head.as_slice(),
             b"GET http://a.example/x HTTP/1.1\r\nHost: a.example\r\nProxy-Authorization: Basic cHU6cHA=\r\nAuthorization: Basic c3U6c3A=\r\nConnection: close\r\n\r\n".as_slice()
         );
+        let local = Origin {
+            host: Bytes::from_slice(alloc, b"[::1]").map_err(|_| "memory")?,
+            port: 8080,
+        };
         let parts = HeadParts {
             method: Method::Head,
             target: b"/",
-            origin: &Origin {
-                host: Bytes::from_slice(alloc, b"[::1]").map_err(|_| "memory")?,
-                port: 8080,
-            },
+            origin: &local,
             proxy: None,
             server: None,
             keep: true,

@@ -15,7 +15,7 @@ pub returns-in-None : goal.returns-in-None
 returns-in-None c =
     on_ok_weaker c.push_piece-in-None.result
     (λ d.
-    d ∙ ap (λ ps. c.pieces.them ++ of_pieces ps) (sym (cut_none 0 c.pieces.rest.now (sym c.in-None.ensures.value)))
+    d ∙ ap (λ ps. c.pieces.them ++ of_pieces ps) (sym (cut_none 44 0 c.pieces.rest.now (sym c.in-None.ensures.value)))
     ∙ c.pieces.invariant
     ∙ ap (λ ps. c.args.them.now ++ of_pieces ps) (sym (append-nil (cut_at 44 c.args.value.now))))
     c.push_piece-in-None.ensures
