@@ -1,0 +1,8 @@
+use Rattle.std.proofs.Common.{refl}
+use Rattle.md5.specs.Md5.{block_words, rounds, compress, hash_after, digest_bytes, md5}
+use Rattle.hex.specs.Hex.{encode_with}
+use Rattle.digest_handler.proofs.examples.rfc_7616_md5.Goals as goal
+
+pub returns : goal.returns
+unfolding block_words rounds compress hash_after digest_bytes md5 encode_with
+returns c = refl

@@ -1,0 +1,43 @@
+-- The examples of RFC 2617, section 3.5, and RFC 7616, section 3.9.1.
+use Rattle.std.specs.Prelude.{ℕ, List, true, false, codes, Some}
+use Rattle.auth_text.specs.Login.{Login}
+use Rattle.spaces.specs.declared.terms.Algorithm.{Algorithm}
+use Rattle.spaces.specs.declared.terms.Algorithm.TheVariants.{Md5}
+use Rattle.spaces.specs.declared.terms.Qop.{Qop}
+use Rattle.spaces.specs.declared.terms.Qop.TheVariants.{Auth}
+use Rattle.spaces.specs.declared.terms.Terms.{Terms}
+
+abbrev pub login_2617 : Login
+login_2617 = record { user = codes "Mufasa"; password = codes "Circle Of Life" }
+
+abbrev pub terms_2617 : Qop → Terms
+terms_2617 qop = record {
+  algorithm = Md5;
+  said = false;
+  realm = codes "testrealm@host.com";
+  nonce = codes "dcd98b7102dd2f0e8b11d0f600bfb0c093";
+  opaque = Some (codes "5ccc069c403ebaf9f0171e9517f40e41");
+  qop = qop;
+}
+
+abbrev pub text_2617 : List ℕ
+text_2617 = codes "Digest username=\"Mufasa\", realm=\"testrealm@host.com\", nonce=\"dcd98b7102dd2f0e8b11d0f600bfb0c093\", uri=\"/dir/index.html\", response=\"6629fae49393a05397450978507c4ef1\", opaque=\"5ccc069c403ebaf9f0171e9517f40e41\", qop=auth, nc=00000001, cnonce=\"0a4f113b\""
+
+abbrev pub text_2617_without_qop : List ℕ
+text_2617_without_qop = codes "Digest username=\"Mufasa\", realm=\"testrealm@host.com\", nonce=\"dcd98b7102dd2f0e8b11d0f600bfb0c093\", uri=\"/dir/index.html\", response=\"670fd8c2df070c60b045671b8b24ff02\", opaque=\"5ccc069c403ebaf9f0171e9517f40e41\""
+
+abbrev pub login_7616 : Login
+login_7616 = record { user = codes "Mufasa"; password = codes "Circle of Life" }
+
+abbrev pub terms_7616 : Algorithm → Terms
+terms_7616 algorithm = record {
+  algorithm = algorithm;
+  said = true;
+  realm = codes "http-auth@example.org";
+  nonce = codes "7ypf/xlj9XXwfDPEoM4URrv/xwf94BcCAzFZH4GiTo0v";
+  opaque = Some (codes "FQhe/qaU925kfnzjCev0ciny7QMkPqMAFRtzCUYo5tdS");
+  qop = Auth;
+}
+
+abbrev pub cnonce_7616 : List ℕ
+cnonce_7616 = codes "f2/wE4q74E6zIJEtWaHKaf5wv/H5QzzpXusqGemxURZJ"

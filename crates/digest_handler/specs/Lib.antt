@@ -1,0 +1,3 @@
+pub mod ClientNonces
+pub mod Credentials
+pub mod Examples

@@ -1,0 +1,12 @@
+pub mod ChunkedBodies
+pub mod Feeding
+pub mod HeaderFields
+pub mod HeadLines
+pub mod Lines
+pub mod ReadHeads
+pub mod Replies
+pub mod RequestHeads
+pub mod ResponseHeads
+pub mod Rows
+pub mod Steps
+pub mod Within

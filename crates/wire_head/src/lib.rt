@@ -1,0 +1,23 @@
+//! HTTP/1.1 on the wire: the heads of requests, written and read back, and replies, read from any
+//! pieces of a stream.
+#![tactic(auto)]
+
+mod chunked_body;
+mod framing;
+mod head_reader;
+mod header_fields;
+mod laws;
+mod lines;
+mod plain;
+mod reader;
+mod reply;
+mod request_head;
+mod response_head;
+#[cfg(test)]
+mod tests;
+
+pub use head_reader::{HeadFault, ReadHead, read_head};
+pub use laws::{heads_read_back, limits, outcomes, worked};
+pub use reader::{At, Fed, ReplyReader};
+pub use reply::{Fields, Reply, WireFault};
+pub use request_head::{HeadParts, write_head};

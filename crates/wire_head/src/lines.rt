@@ -1,0 +1,87 @@
+//! Lines of HTTP: where one ends, and where a head ends, which is its first blank line
+//! (RFC 7230, section 3.5, lets LF alone end a line).
+
+ghost use Rattle.std.specs.Prelude.{◌≡◌, ◌<◌, ◌≤◌, length, drop, take, IfSome};
+ghost use Rattle.wire_head.specs.Lines as spec;
+ghost use Rattle.wire_head.specs.Within.{IsFrontWithin};
+
+/// How a text begins, where a line or the end of one is wanted.
+#[derive(Clone, Copy, Debug, PartialEq, Eq)]
+pub(crate) enum Front {
+    /// With a whole one, of so many bytes.
+    Whole(usize),
+    /// The byte of this place can't stand there.
+    Wrong(usize),
+    /// With a part of one, or it is empty.
+    Part,
+}
+
+/// What is left behind n bytes.
+pub(crate) fn rest_of(text: &[u8], n: usize) -> &[u8]
+    requires { n ≤ length text.now }
+    ensures { result.now ≡ drop n text.now }
+{
+    &text[n..]
+}
+
+/// The first n bytes.
+pub(crate) fn front_of(text: &[u8], n: usize) -> &[u8]
+    requires { n ≤ length text.now }
+    ensures { result.now ≡ take n text.now }
+{
+    &text[..n]
+}
+
+/// The length of the blank line at the front, where there is one.
+pub(crate) fn blank_len(text: &[u8]) -> Option<usize>
+    ensures value { result ≡ spec.blank_len text.now }
+    ensures within { IfSome result (λ n. (0 < n) × (n ≤ length text.now)) }
+{
+    match text {
+        [b'\n', ..] => Some(1),
+        [b'\r', b'\n', ..] => Some(2),
+        _ => None,
+    }
+}
+
+/// The length of the LF at the front and of the blank line behind it, where both are there.
+fn end_len(text: &[u8]) -> Option<usize>
+    ensures value { result ≡ spec.end_len text.now }
+    ensures within { IfSome result (λ n. (0 < n) × (n ≤ length text.now)) }
+{
+    let [b'\n', rest @ ..] = text else {
+        return None;
+    };
+    match blank_len(rest) {
+        Some(n) => Some(1 + n),
+        None => None,
+    }
+}
+
+/// The length of the text up to and with its first blank line.
+pub(crate) fn head_len(text: &[u8]) -> Option<usize>
+    ensures value { result ≡ spec.head_len text.now }
+    ensures within { IfSome result (λ n. (0 < n) × (n ≤ length text.now)) }
+{
+    for i in 0..text.len() {
+        if let Some(n) = end_len(rest_of(text, i)) {
+            return Some(i + n);
+        }
+    }
+    None
+}
+
+/// The end of a line: LF, or CR and LF.
+pub(crate) fn line_end(text: &[u8]) -> Front
+    ensures value { result ≡ spec.line_end text.now }
+    ensures within { IsFrontWithin (length text.now) result }
+{
+    match text {
+        [] => Front::Part,
+        [b'\n', ..] => Front::Whole(1),
+        [b'\r'] => Front::Part,
+        [b'\r', b'\n', ..] => Front::Whole(2),
+        [b'\r', ..] => Front::Wrong(1),
+        _ => Front::Wrong(0),
+    }
+}
