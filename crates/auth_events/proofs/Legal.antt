@@ -1,10 +1,10 @@
 -- A legal journal, and one entry more.
-use Rattle.std.proofs.Common.{◌≡◌, ℕ, zero, suc, ◌-◌, ◌<◌, ◌≤◌, ◌≢◌, Bool, true, false, not, ◌&&◌, cond, eqb, List, [], ◌∷◌, ◌++◌, length, refl, ap, sym, subst, ◌∙◌, inl, inr, arith, Option, Some, None}
-use Rattle.std.specs.Prelude.{All, count_by, find, reverse, IsTrue, ◌==◌, option_map, unwrap_or, is_some, slice_get, nat_lt}
+use Rattle.std.proofs.Common.{◌≡◌, ℕ, ◌<◌, ◌≤◌, ◌≢◌, Bool, true, false, not, ◌&&◌, cond, List, [], ◌∷◌, ◌++◌, length, refl, ap, sym, subst, ◌∙◌, inl, inr, arith, Option, Some, None}
+use Rattle.std.specs.Prelude.{All, count_by, filter, find, reverse, IsTrue, ◌==◌, option_map, unwrap_or, is_some, nat_lt}
 use Rattle.std.specs.List.{list_any}
-use Rattle.std.proofs.lemmas.List.{reverse-append}
+use Rattle.std.proofs.lemmas.List.{reverse-append, reverse-reverse}
 use Rattle.std.proofs.lemmas.List.Sums.{length-filter, sum_by-cons, sum_by_push}
-use Rattle.std.proofs.lemmas.List.Elements.{All-head, All-tail, All-push}
+use Rattle.std.proofs.lemmas.List.Elements.{All-head, All-tail, All-nil, All-cons, All-push}
 use Rattle.std.proofs.lemmas.Bool.Decides.{nat_tests}
 use Rattle.std.proofs.lemmas.Bool.{false≢true, cases_eq}
 use Rattle.spaces.specs.Sites.{numbered}
@@ -20,20 +20,19 @@ use Rattle.auth_events.specs.Tables.{Tables}
 use Rattle.auth_events.specs.Pages.{IsPage, IsWithinRoom, HasRoomFor, count_of, fits}
 use Rattle.auth_events.specs.Past.{current, end, settles, taken_from}
 use Rattle.auth_events.specs.Told.{is_pending}
-use Rattle.auth_events.specs.Book.{Choice, IsLegal, IsLegalPast, allowed, allowed_call, answer, is_own, own, draws, begins, ends, no_entry, is_open, preempt_answer, ready, select_answer, choice}
+use Rattle.auth_events.proofs.Numbers.{and_left, and_right, numbered_in}
+use Rattle.auth_events.specs.Book.{Choice, IsLegal, IsLegalPast, allowed, allowed_call, answer, own, draws, is_rival, begins, ends, no_entry, is_open, preempt_answer, ready, select_answer, choice}
 use Rattle.auth_events.specs.Book.Choice.{By_url, By_cache, By_default, By_following, By_leading}
 
 -- an entry more is legal where it was allowed and has its answer
-pub IsLegal-push : (roster : Roster) (names : Tables) (journal : List Entry) (entry : Entry) → IsLegal roster names journal → IsTrue (allowed roster names (reverse journal) entry.caller entry.request entry.call) → entry.reply ≡ answer roster names (reverse journal) entry.request entry.call → IsLegal roster names (journal ++ entry ∷ [])
-IsLegal-push roster names journal entry legal may is_answer =
-    subst (λ past. IsLegalPast roster names past) (sym (reverse-append journal (entry ∷ []))) (legal, λ _. (may, is_answer))
+pub IsLegal-push : (roster : Roster) (names : Tables) (journal : List Entry) (entry : Entry) → IsLegalPast roster names (reverse journal) → IsTrue (allowed roster names (reverse journal) entry.caller entry.request entry.call) → entry.reply ≡ answer roster names (reverse journal) entry.request entry.call → IsTrue (fits entry.call entry.reply) → IsLegalPast roster names (reverse (journal ++ entry ∷ []))
+IsLegal-push roster names journal entry legal may is_answer fit =
+    subst (λ past. IsLegalPast roster names past) (sym (reverse-append journal (entry ∷ []))) (legal, (may, is_answer, fit))
 
 pub All-reverse : (P : Entry → Type 0) (xs : List Entry) → All P xs → All P (reverse xs)
 All-reverse P [] all = all
 All-reverse P (x ∷ xs) all =
     subst (λ ys. All P ys) (sym (reverse-append (x ∷ []) xs)) (All-push P (reverse xs) x (All-reverse P xs (All-tail P x xs all)) (All-head P x xs all))
-
--- the entries of a request, counted on
 
 pub fits_no_draw : (call : Call) (reply : BookReply) → IsTrue (fits call reply) → draws call ≡ false
 fits_no_draw Begin reply fit = refl
@@ -54,22 +53,9 @@ count_by-reverse p (x ∷ xs) =
     ap (count_by p) (reverse-append (x ∷ []) xs)
     ∙ omega (arith, sum_by_push (λ e. cond (p e) 1 0) (reverse xs) x, sum_by-cons (λ e. cond (p e) 1 0) x xs, count_by-reverse p xs)
 
-is_own_is : (n r : ℕ) (entry : Entry) → IsPage n entry → is_own entry r ≡ (entry.request == r)
-is_own_is n r entry page = rw (fits_no_draw entry.call entry.reply page.fit) (and-true (entry.request == r))
-  where
-    and-true : (b : Bool) → (b && true) ≡ b
-    and-true true = refl
-    and-true false = refl
-
-count_own : (n r : ℕ) (entries : List Entry) → All (IsPage n) entries → count_by (λ entry. is_own entry r) entries ≡ count_of r entries
-count_own n r [] pages = refl
-count_own n r (entry ∷ entries) pages =
-    let here = ap {B = ℕ} (λ b. cond b 1 0) (is_own_is n r entry (All-head (IsPage n) entry entries pages)) in
-    omega (arith, here, sum_by-cons (λ e. cond (is_own e r) 1 0) entry entries, sum_by-cons (λ e. cond (e.request == r) 1 0) entry entries, count_own n r entries (All-tail (IsPage n) entry entries pages))
-
-pub length-own : (n r : ℕ) (entries : List Entry) → All (IsPage n) entries → length (own (reverse entries) r) ≡ count_of r entries
-length-own n r entries pages =
-    length-filter (λ entry. is_own entry r) (reverse entries) ∙ (count_by-reverse (λ entry. is_own entry r) entries ∙ count_own n r entries pages)
+pub length-own : (r : ℕ) (entries : List Entry) → length (own (reverse entries) r) ≡ count_of r entries
+length-own r entries =
+    length-filter (λ entry. entry.request == r) (reverse entries) ∙ count_by-reverse (λ entry. entry.request == r) entries
 
 other_request : (r : ℕ) (entry : Entry) → entry.request ≢ r → ◌≡◌ {A = ℕ} (cond (entry.request == r) 1 0) 0
 other_request r entry other = grind (arith, nat_tests)
@@ -95,12 +81,12 @@ fits_preempt : (names : Tables) (past : List Entry) (target : Target) (s : Optio
 fits_preempt names past target None = refl
 fits_preempt names past target (Some s) = fits_ready names past s target (current past s)
 
-fits_select : (roster : Roster) (names : Tables) (past : List Entry) (s t : ℕ) (how : Choice) → IsTrue (fits (Select s t) (select_answer past s how))
-fits_select roster names past s t By_url = refl
-fits_select roster names past s t (By_cache gift) = refl
-fits_select roster names past s t By_default = refl
-fits_select roster names past s t (By_following p) = refl
-fits_select roster names past s t By_leading = refl
+fits_select : (rival : ℕ → Bool) (past : List Entry) (s t : ℕ) (how : Choice) → IsTrue (fits (Select s t) (select_answer rival past s how))
+fits_select rival past s t By_url = refl
+fits_select rival past s t (By_cache gift) = refl
+fits_select rival past s t By_default = refl
+fits_select rival past s t (By_following p) = refl
+fits_select rival past s t By_leading = refl
 
 fits_if : (call : Call) (b : Bool) (x y : BookReply) → IsTrue (fits call x) → IsTrue (fits call y) → IsTrue (fits call (cond b x y))
 fits_if call true x y fx fy = fx
@@ -140,7 +126,7 @@ fits_end n p (entry ∷ past) pages done = at (settles entry.call p) refl done (
 fits_answer : (roster : Roster) (names : Tables) (n r : ℕ) (past : List Entry) (call : Call) → All (IsPage n) past → IsTrue (allowed_call roster names past r call) → is_pending (answer roster names past r call) ≡ false → IsTrue (fits call (answer roster names past r call))
 fits_answer roster names n r past Begin pages may done = refl
 fits_answer roster names n r past (Preempt target) pages may done = fits_preempt names past target _
-fits_answer roster names n r past (Select space t) pages may done = fits_select roster names past space t (choice roster names past r space)
+fits_answer roster names n r past (Select space t) pages may done = fits_select (is_rival names space) past space t (choice roster names past r space)
 fits_answer roster names n r past (Reject space ordinal) pages may done = fits_if (Reject space ordinal) _ Removed (Kept _) refl refl
 fits_answer roster names n r past (Renew gift t) pages may done = fits_if (Renew gift t) _ Renewed (Kept _) refl refl
 fits_answer roster names n r past (Answer prompt text t) pages may done = fits_if (Answer prompt text t) _ Cancelled (Given _ _) refl refl
@@ -150,32 +136,34 @@ fits_answer roster names n r past (Note gift) pages may done = fits_if (Note gif
 fits_answer roster names n r past End pages may done = refl
 fits_answer roster names n r past (Draw nonce) pages may done = absurd (false≢true may)
 
+-- the past of a legal journal has no draws
+filter_all : (p : Entry → Bool) (xs : List Entry) → All (λ x. IsTrue (p x)) xs → filter p xs ≡ xs
+filter_all p [] all = refl
+filter_all p (x ∷ xs) all =
+    ap (λ b. cond b (x ∷ filter p xs) (filter p xs)) (All-head (λ y. IsTrue (p y)) x xs all) ∙ ap (λ ys. x ∷ ys) (filter_all p xs (All-tail (λ y. IsTrue (p y)) x xs all))
+
+abbrev pub IsNoDraw : Entry → Type 0
+IsNoDraw entry = IsTrue (not (draws entry.call))
+
+no_draws_past : (roster : Roster) (names : Tables) (past : List Entry) → IsLegalPast roster names past → All IsNoDraw past
+no_draws_past roster names [] legal = All-nil IsNoDraw
+no_draws_past roster names (entry ∷ past) legal =
+    All-cons IsNoDraw entry past (ap not (fits_no_draw entry.call entry.reply legal.1.2)) (no_draws_past roster names past legal.0)
+
+pub no_draws : (roster : Roster) (names : Tables) (journal : List Entry) → IsLegalPast roster names (reverse journal) → All IsNoDraw journal
+no_draws roster names journal legal =
+    subst (λ entries. All IsNoDraw entries) (reverse-reverse journal) (All-reverse IsNoDraw (reverse journal) (no_draws_past roster names (reverse journal) legal))
+
+-- a journal whose past is legal is a legal history
+pub IsLegal-journal : (roster : Roster) (names : Tables) (journal : List Entry) → IsLegalPast roster names (reverse journal) → IsLegal roster names journal
+IsLegal-journal roster names journal legal =
+    subst (λ entries. IsLegalPast roster names (reverse entries)) (sym (filter_all (λ entry. not (draws entry.call)) journal (no_draws roster names journal legal))) legal
+
 -- there is room for the entry of an allowed call
 
 some_of : (p : Entry → Bool) (xs : List Entry) → IsTrue (list_any p xs) → 0 < length xs
 some_of p [] any = absurd (false≢true any)
 some_of p (x ∷ xs) any = omega arith
-
-is_some_within : {A : Type 0} (xs : List A) (j : ℕ) → IsTrue (is_some (slice_get xs j)) → j < length xs
-is_some_within [] j named = absurd (false≢true named)
-is_some_within (x ∷ xs) zero named = omega arith
-is_some_within (x ∷ xs) (suc j) named = omega (arith, is_some_within xs j named)
-
-numbered_in : {A : Type 0} (xs : List A) (r : ℕ) → IsTrue (is_some (numbered xs r)) → (1 ≤ r) × (r ≤ length xs)
-numbered_in xs zero named = absurd (false≢true named)
-numbered_in {A} xs (suc k) named =
-    let positive : eqb (suc k) 0 ≡ false = grind (arith, nat_tests) in
-    let at = ap (λ b. cond {A = Option A} b None (slice_get xs (suc k - 1))) positive in
-    let within = is_some_within xs (suc k - 1) (subst (λ found. IsTrue (is_some found)) at named) in
-    (omega arith, omega arith)
-
-pub and_left : (a b : Bool) → IsTrue (a && b) → IsTrue a
-and_left true b both = refl
-and_left false b both = absurd (false≢true both)
-
-pub and_right : (a b : Bool) → IsTrue (a && b) → IsTrue b
-and_right true b both = both
-and_right false b both = absurd (false≢true both)
 
 lt_of : (a b : ℕ) → IsTrue (nat_lt a b) → a < b
 lt_of a b test = grind (arith, nat_tests)
@@ -194,7 +182,7 @@ module _ (roster : Roster) (names : Tables) (n caller r : ℕ) (journal : List E
       let begun = and_left (list_any begins_it ours) (not (list_any (λ entry. ends entry.call) ours)) (and_left _ (nat_lt (length ours) 64) opened) in
       let some = some_of begins_it ours begun in
       let few : length ours < 64 = lt_of (length ours) 64 (and_right (list_any begins_it ours && not (list_any (λ entry. ends entry.call) ours)) _ opened) in
-      let counted = length-own n r journal pages in
+      let counted = length-own r journal in
       let range : (1 ≤ r) × (r ≤ n) = in_range n r journal pages (omega (arith, some, counted)) in
       (range.0, range.1, omega (arith, few, counted))
 
@@ -202,7 +190,7 @@ module _ (roster : Roster) (names : Tables) (n caller r : ℕ) (journal : List E
   room_of Begin may =
       let range : (1 ≤ r) × (r ≤ length roster.requests) = numbered_in roster.requests r (and_right (no_entry (reverse journal) r) (is_some (numbered roster.requests r)) may) in
       let none = zero_of (length (own (reverse journal) r)) (and_left (no_entry (reverse journal) r) (is_some (numbered roster.requests r)) may) in
-      (range.0, omega arith, omega (arith, none, length-own n r journal pages))
+      (range.0, omega arith, omega (arith, none, length-own r journal))
   room_of (Preempt target) may = room_open (and_left _ _ may)
   room_of (Select space t) may = room_open (and_left _ _ may)
   room_of (Reject space ordinal) may = room_open (and_left _ _ may)

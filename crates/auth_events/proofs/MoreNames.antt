@@ -1,6 +1,6 @@
 -- A legal journal stays legal when things are named anew.
-use Rattle.std.proofs.Common.{◌≡◌, ℕ, zero, suc, ◌+◌, ◌-◌, ◌≤◌, Bool, true, false, not, ◌&&◌, ◌||◌, cond, eqb, List, [], ◌∷◌, ◌++◌, length, refl, ap, sym, subst, ◌∙◌, inl, inr, ◌⊎◌, arith, Option, Some, None}
-use Rattle.std.specs.Prelude.{All, reverse, IsTrue, ◌==◌, option_map, option_and_then, unwrap_or, is_some, slice_get, nat_le}
+use Rattle.std.proofs.Common.{◌≡◌, ℕ, zero, suc, ◌≤◌, Bool, true, false, not, ◌&&◌, ◌||◌, cond, List, [], ◌∷◌, length, refl, ap, sym, subst, ◌∙◌, inl, inr, ◌⊎◌, arith, length-append, Option, Some, None}
+use Rattle.std.specs.Prelude.{All, reverse, IsTrue, ◌==◌, option_map, option_and_then, unwrap_or, is_some, nat_le}
 use Rattle.std.specs.List.{list_any}
 use Rattle.std.proofs.lemmas.List.Elements.{All-head, All-tail, All-nil, All-cons}
 use Rattle.std.proofs.lemmas.Bool.Decides.{nat_tests}
@@ -17,24 +17,23 @@ use Rattle.auth_events.specs.declared.journal.Call.{Call}
 use Rattle.auth_events.specs.declared.journal.Call.TheVariants.{Begin, Preempt, Select, Reject, Renew, Answer, Lose, Take, Note, End, Draw}
 use Rattle.auth_events.specs.declared.journal.BookReply.{BookReply}
 use Rattle.auth_events.specs.declared.journal.BookReply.TheVariants.{Ready, Url, Lead, Given, Cancelled}
-use Rattle.auth_events.specs.Tables.{Tables}
+use Rattle.auth_events.specs.Tables.{Tables, with_space, with_terms, with_text}
 use Rattle.auth_events.specs.Pages.{IsPage, fits}
 use Rattle.auth_events.specs.Past.{current, live, settled, evicted, first_space, is_lead, lead, prompt_led, terms, terms_in, touches, is_ready, gift_given, spaces_given}
-use Rattle.auth_events.specs.Book.{IsLegal, IsLegalPast, IsStep, allowed_call, answer, scheme_is, is_digest, target_of, is_of_site, nonce_of, has_terms, fits_space, holds_nonce, is_left, epoch, epoch_of_terms, terms_selected, space_selected, space_of_prompt, dirs, found_in, best_found, by_path, is_allowed_origin, choice, is_site_of, space_named, waits, was_told, is_led_by, select_answer, given_answer, next_gift, Choice, Found, better, is_basic, is_negotiate, path_of, preempt_answer, ready}
+use Rattle.auth_events.specs.Book.{IsLegalPast, IsStep, allowed_call, answer, scheme_is, is_digest, target_of, is_of_site, nonce_of, has_terms, fits_space, holds_nonce, is_left, epoch, epoch_of_terms, terms_selected, space_selected, space_of_prompt, dirs, found_in, best_found, by_path, is_allowed_origin, choice, is_site_of, space_named, waits, was_told, is_led_by, select_answer, given_answer, next_gift, Choice, Found, better, is_basic, is_negotiate, path_of, preempt_answer, ready, is_rival}
 use Rattle.auth_events.specs.declared.names.TermsName.{TermsName}
 use Rattle.auth_events.specs.Book.Choice.{By_url, By_cache, By_default, By_following, By_leading}
 use Rattle.std.specs.List.{cons_option}
-use Rattle.auth_events.proofs.Legal.{and_left, and_right, fits_no_draw, All-reverse}
+use Rattle.auth_events.proofs.Numbers.{some_of_test, and_left, and_right, both, numbered-append}
+use Rattle.auth_events.proofs.Legal.{All-reverse}
+use Rattle.auth_text.specs.Login.{Login}
 
 -- every number keeps its meaning
 pub record Extends (names more : Tables) : Type 0 where
   pub spaces : (s : ℕ) → IsTrue (is_some (numbered names.spaces s)) → numbered more.spaces s ≡ numbered names.spaces s
   pub terms : (t : ℕ) → IsTrue (is_some (numbered names.terms t)) → numbered more.terms t ≡ numbered names.terms t
+  pub text : (x : ℕ) → IsTrue (is_some (numbered names.texts x)) → numbered more.texts x ≡ numbered names.texts x
   pub texts : length names.texts ≤ length more.texts
-
-some_of_test : {A : Type 0} (f : A → Bool) (o : Option A) → IsTrue (unwrap_or (option_map f o) false) → IsTrue (is_some o)
-some_of_test f None test = absurd (false≢true test)
-some_of_test f (Some x) test = refl
 
 -- what a lead's entry called
 lead_select : (call : Call) (reply : BookReply) → IsTrue (fits call reply) → IsTrue (is_lead reply) → (s : ℕ) × (t : ℕ) × (call ≡ Select s t)
@@ -60,7 +59,7 @@ lead_select End reply fit led = absurd (false≢true led)
 lead_select (Draw nonce) reply fit led = absurd (false≢true fit)
 
 -- what a giving entry called
-given_call : (call : Call) (reply : BookReply) (g : Gift) → IsTrue (fits call reply) → gift_given reply ≡ Some g → ((s : ℕ) × (t : ℕ) × (call ≡ Select s t)) ⊎ ((p : ℕ) × (x : ℕ) × (t : ℕ) × (call ≡ Answer p x t))
+pub given_call : (call : Call) (reply : BookReply) (g : Gift) → IsTrue (fits call reply) → gift_given reply ≡ Some g → ((s : ℕ) × (t : ℕ) × (call ≡ Select s t)) ⊎ ((p : ℕ) × (x : ℕ) × (t : ℕ) × (call ≡ Answer p x t))
 given_call (Select s t) reply g fit given = inl (s, t, refl)
 given_call (Answer p x t) reply g fit given = inr (p, x, t, refl)
 given_call Begin (Url gift' evicted) g fit given = absurd (false≢true fit)
@@ -91,17 +90,17 @@ given_call (Draw nonce) (Url gift' evicted) g fit given = absurd (false≢true f
 given_call (Draw nonce) (Given gift' evicted) g fit given = absurd (false≢true fit)
 given_call (Draw nonce) reply g fit given = cc
 
-select_gives : (roster : Roster) (names : Tables) (past : List Entry) (s : ℕ) (how : Choice) (g : Gift) → gift_given (select_answer past s how) ≡ Some g → g.space ≡ s
-select_gives roster names past s By_url g given = let same : next_gift past s ≡ g = cc in ap (λ (h : Gift). h.space) (sym same)
-select_gives roster names past s (By_cache gift) g given = cc
-select_gives roster names past s By_default g given = cc
-select_gives roster names past s (By_following p) g given = cc
-select_gives roster names past s By_leading g given = cc
+select_gives : (rival : ℕ → Bool) (past : List Entry) (s : ℕ) (how : Choice) (g : Gift) → gift_given (select_answer rival past s how) ≡ Some g → g.space ≡ s
+select_gives rival past s By_url g given = let same : next_gift past s ≡ g = cc in ap (λ (h : Gift). h.space) (sym same)
+select_gives rival past s (By_cache gift) g given = cc
+select_gives rival past s By_default g given = cc
+select_gives rival past s (By_following p) g given = cc
+select_gives rival past s By_leading g given = cc
 
-answer_gives : (past : List Entry) (s x : ℕ) (g : Gift) → gift_given (given_answer past s x) ≡ Some g → g.space ≡ s
-answer_gives past s x g = at (x == 0)
+answer_gives : (rival : ℕ → Bool) (past : List Entry) (s x : ℕ) (g : Gift) → gift_given (given_answer rival past s x) ≡ Some g → g.space ≡ s
+answer_gives rival past s x g = at (x == 0)
   where
-    at : (b : Bool) → gift_given (cond b Cancelled (Given (next_gift past s) (evicted past s))) ≡ Some g → g.space ≡ s
+    at : (b : Bool) → gift_given (cond b Cancelled (Given (next_gift past s) (evicted rival past s))) ≡ Some g → g.space ≡ s
     at true given = cc
     at false given = let same : next_gift past s ≡ g = cc in ap (λ (h : Gift). h.space) (sym same)
 
@@ -111,9 +110,6 @@ one_of false b left right either = right either
 
 nat_le-more : (a b c : ℕ) → b ≤ c → IsTrue (nat_le a b) → IsTrue (nat_le a c)
 nat_le-more a b c le test = grind (arith, nat_tests)
-
-both : (a b : Bool) → IsTrue a → IsTrue b → IsTrue (a && b)
-both a b is_a is_b = cc
 
 module _ (roster : Roster) (names : Tables) where
   abbrev NamesSpace : ℕ → Type 0
@@ -145,7 +141,7 @@ module _ (roster : Roster) (names : Tables) where
       is_site_of_named s = unwrap_or (option_map (is_site_of roster r) (space_named names s)) false
 
   step_of : (n : ℕ) (past : List Entry) (entry : Entry) → IsPage n entry → IsStep roster names past entry → IsTrue (allowed_call roster names past entry.request entry.call) × (entry.reply ≡ answer roster names past entry.request entry.call)
-  step_of n past entry page step = let did = step (fits_no_draw entry.call entry.reply page.fit) in (and_right _ _ did.0, did.1)
+  step_of n past entry page step = (and_right _ _ step.0, step.1)
 
   lead_named : (n : ℕ) (past : List Entry) → All (IsPage n) past → IsLegalPast roster names past → (p : ℕ) (entry : Entry) → lead past p ≡ Some entry → IsSelect entry.call
   lead_named n [] pages legal p entry found = cc
@@ -219,11 +215,11 @@ module _ (roster : Roster) (names : Tables) where
         | inl sel ↦
             (let may' = subst (λ call. IsTrue (allowed_call roster names past r call)) sel.2 may in
             let given' = subst (λ call. gift_given (answer roster names past r call) ≡ Some g) sel.2 (subst (λ reply. gift_given reply ≡ Some g) is given) in
-            subst NamesSpace (sym (select_gives roster names past sel.0 (choice roster names past r sel.0) g given')) (select_named past r sel.0 sel.1 may').space)
+            subst NamesSpace (sym (select_gives (is_rival names sel.0) past sel.0 (choice roster names past r sel.0) g given')) (select_named past r sel.0 sel.1 may').space)
         | inr ans ↦
             (let may' = subst (λ call. IsTrue (allowed_call roster names past r call)) ans.3 may in
             let given' = subst (λ call. gift_given (answer roster names past r call) ≡ Some g) ans.3 (subst (λ reply. gift_given reply ≡ Some g) is given) in
-            subst NamesSpace (sym (answer_gives past (space_of_prompt past ans.0) ans.1 g given')) (prompt_named n past pages legal r ans.0 ans.1 ans.2 may'))
+            subst NamesSpace (sym (answer_gives (is_rival names (space_of_prompt past ans.0)) past (space_of_prompt past ans.0) ans.1 g given')) (prompt_named n past pages legal r ans.0 ans.1 ans.2 may'))
       ]
 
   -- the spaces that were given are named
@@ -349,7 +345,7 @@ module _ (roster : Roster) (names more : Tables) (ext : Extends names more) wher
     answer-same past pages legal r (Preempt target) may =
         ap (preempt_answer names past) (path-same past pages legal (path_of roster r target) _) ∙ preempt-same past pages legal _
     answer-same past pages legal r (Select s t) may =
-        ap (select_answer past s) (choice-same past r s (select_named roster names past r s t may).space)
+        ap (select_answer (is_rival names s) past s) (choice-same past r s (select_named roster names past r s t may).space)
     answer-same past pages legal r (Reject space ordinal) may = refl
     answer-same past pages legal r (Renew gift t) may = refl
     answer-same past pages legal r (Answer prompt text t) may = refl
@@ -416,45 +412,41 @@ module _ (roster : Roster) (names more : Tables) (ext : Extends names more) wher
         let page = All-head (IsPage n) entry past pages in
         let did = step_of roster names n past entry page legal.1 in (
           IsLegal-more past older legal.0,
-          λ no_draw. (
-            both _ _ (and_left _ (allowed_call roster names past entry.request entry.call) (legal.1 no_draw).0) (allowed-more past entry.request entry.call did.0),
+          (
+            both _ _ (and_left _ (allowed_call roster names past entry.request entry.call) legal.1.0) (allowed-more past entry.request entry.call did.0),
             did.1 ∙ answer-same past older legal.0 entry.request entry.call did.0,
+            legal.1.2,
           ),
         )
 
-slice_get-append : {A : Type 0} (xs ys : List A) (j : ℕ) → IsTrue (is_some (slice_get xs j)) → slice_get (xs ++ ys) j ≡ slice_get xs j
-slice_get-append [] ys j named = absurd (false≢true named)
-slice_get-append (x ∷ xs) ys zero named = refl
-slice_get-append (x ∷ xs) ys (suc j) named = slice_get-append xs ys j named
-
-numbered-append : {A : Type 0} (xs ys : List A) (n : ℕ) → IsTrue (is_some (numbered xs n)) → numbered (xs ++ ys) n ≡ numbered xs n
-numbered-append {A} xs ys n = at (n == 0)
-  where
-    at : (b : Bool) → IsTrue (is_some (cond {A = Option A} b None (slice_get xs (n - 1)))) → cond {A = Option A} b None (slice_get (xs ++ ys) (n - 1)) ≡ cond b None (slice_get xs (n - 1))
-    at true named = refl
-    at false named = slice_get-append xs ys (n - 1) named
-
--- a space more
-pub extends_by_space : (names : Tables) (space : ProtectionSpace) → Extends names (record names { spaces = names.spaces ++ space ∷ [] })
+-- with a space more
+pub extends_by_space : (names : Tables) (space : ProtectionSpace) → Extends names (with_space names space)
 extends_by_space names space = record {
   spaces = numbered-append names.spaces (space ∷ []);
   terms = λ t named. refl;
+  text = λ x named. refl;
   texts = omega arith;
 }
 
--- a legal journal stays legal with a space more
-pub IsLegal-space : (roster : Roster) (names : Tables) (space : ProtectionSpace) (n : ℕ) (journal : List Entry) → All (IsPage n) journal → IsLegal roster names journal → IsLegal roster (record names { spaces = names.spaces ++ space ∷ [] }) journal
-IsLegal-space roster names space n journal pages legal =
-    IsLegal-more roster names (record names { spaces = names.spaces ++ space ∷ [] }) (extends_by_space names space) n (reverse journal) (All-reverse (IsPage n) journal pages) legal
+-- with terms more
+pub extends_by_terms : (names : Tables) (name : TermsName) → Extends names (with_terms names name)
+extends_by_terms names name = record {
+  spaces = λ s named. refl;
+  terms = numbered-append names.terms (name ∷ []);
+  text = λ x named. refl;
+  texts = omega arith;
+}
 
-slice_get-last : {A : Type 0} (xs : List A) (x : A) → slice_get (xs ++ x ∷ []) (length xs) ≡ Some x
-slice_get-last [] x = refl
-slice_get-last (y ∷ xs) x = slice_get-last xs x
+-- with a text more
+pub extends_by_text : (names : Tables) (text : Login) → Extends names (with_text names text)
+extends_by_text names text = record {
+  spaces = λ s named. refl;
+  terms = λ t named. refl;
+  text = numbered-append names.texts (text ∷ []);
+  texts = omega (arith, length-append names.texts (text ∷ []));
+}
 
--- the thing at the end
-pub numbered-last : {A : Type 0} (xs : List A) (x : A) → numbered (xs ++ x ∷ []) (length xs + 1) ≡ Some x
-numbered-last {A} xs x =
-    let positive : eqb (length xs + 1) 0 ≡ false = grind (arith, nat_tests) in
-    let back : length xs + 1 - 1 ≡ length xs = omega arith in
-    ap (λ b. cond {A = Option A} b None (slice_get (xs ++ x ∷ []) (length xs + 1 - 1))) positive
-    ∙ (ap (slice_get (xs ++ x ∷ [])) back ∙ slice_get-last xs x)
+-- a journal whose past is legal stays so when every number keeps its meaning
+pub legal-more : (roster : Roster) (names more : Tables) → Extends names more → (n : ℕ) (journal : List Entry) → All (IsPage n) journal → IsLegalPast roster names (reverse journal) → IsLegalPast roster more (reverse journal)
+legal-more roster names more ext n journal pages legal =
+    IsLegal-more roster names more ext n (reverse journal) (All-reverse (IsPage n) journal pages) legal

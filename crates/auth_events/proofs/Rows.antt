@@ -65,7 +65,7 @@ row9 =
     ∷ (record { caller = 2; request = 2; call = (Select 1 0); reply = (Cached (record { space = 1; ordinal = 2 })) }) ∷ []
 
 pub row9_is_legal : IsLegal row9_roster row9_names row9
-row9_is_legal = ((((((((((((tt, λ _. (refl, refl)), λ _. (refl, refl)), λ _. (refl, refl)), λ _. (refl, refl)), λ _. (refl, refl)), λ _. (refl, refl)), λ _. (refl, refl)), λ _. (refl, refl)), λ _. (refl, refl)), λ _. (refl, refl)), λ _. (refl, refl)), λ _. (refl, refl))
+row9_is_legal = ((((((((((((tt, (refl, refl, refl)), (refl, refl, refl)), (refl, refl, refl)), (refl, refl, refl)), (refl, refl, refl)), (refl, refl, refl)), (refl, refl, refl)), (refl, refl, refl)), (refl, refl, refl)), (refl, refl, refl)), (refl, refl, refl)), (refl, refl, refl))
 
 abbrev row14_roster : Roster
 row14_roster = record { requests = request_of 65 ∷ request_of 65 ∷ request_of 65 ∷ []; allowed = [] }
@@ -89,7 +89,7 @@ row14 =
     ∷ (record { caller = 2; request = 2; call = (Take 1); reply = Cancelled }) ∷ []
 
 pub row14_is_legal : IsLegal row14_roster row14_names row14
-row14_is_legal = ((((((((((((tt, λ _. (refl, refl)), λ _. (refl, refl)), λ _. (refl, refl)), λ _. (refl, refl)), λ _. (refl, refl)), λ _. (refl, refl)), λ _. (refl, refl)), λ _. (refl, refl)), λ _. (refl, refl)), λ _. (refl, refl)), λ _. (refl, refl)), λ _. (refl, refl))
+row14_is_legal = ((((((((((((tt, (refl, refl, refl)), (refl, refl, refl)), (refl, refl, refl)), (refl, refl, refl)), (refl, refl, refl)), (refl, refl, refl)), (refl, refl, refl)), (refl, refl, refl)), (refl, refl, refl)), (refl, refl, refl)), (refl, refl, refl)), (refl, refl, refl))
 
 abbrev row14_lost_roster : Roster
 row14_lost_roster = record { requests = request_of 65 ∷ request_of 65 ∷ request_of 65 ∷ []; allowed = [] }
@@ -113,7 +113,7 @@ row14_lost =
     ∷ (record { caller = 2; request = 2; call = (Take 1); reply = (Lost (Fault 5)) }) ∷ []
 
 pub row14_lost_is_legal : IsLegal row14_lost_roster row14_lost_names row14_lost
-row14_lost_is_legal = ((((((((((((tt, λ _. (refl, refl)), λ _. (refl, refl)), λ _. (refl, refl)), λ _. (refl, refl)), λ _. (refl, refl)), λ _. (refl, refl)), λ _. (refl, refl)), λ _. (refl, refl)), λ _. (refl, refl)), λ _. (refl, refl)), λ _. (refl, refl)), λ _. (refl, refl))
+row14_lost_is_legal = ((((((((((((tt, (refl, refl, refl)), (refl, refl, refl)), (refl, refl, refl)), (refl, refl, refl)), (refl, refl, refl)), (refl, refl, refl)), (refl, refl, refl)), (refl, refl, refl)), (refl, refl, refl)), (refl, refl, refl)), (refl, refl, refl)), (refl, refl, refl))
 
 abbrev row13_roster : Roster
 row13_roster = record { requests = request_of 65 ∷ request_of 66 ∷ request_of 67 ∷ request_of 68 ∷ request_of 69 ∷ request_of 70 ∷ request_of 71 ∷ request_of 72 ∷ request_of 73 ∷ request_of 74 ∷ request_of 75 ∷ request_of 76 ∷ request_of 77 ∷ request_of 78 ∷ request_of 79 ∷ request_of 80 ∷ request_of 81 ∷ request_of 82 ∷ request_of 83 ∷ request_of 84 ∷ request_of 85 ∷ request_of 86 ∷ request_of 87 ∷ request_of 88 ∷ request_of 89 ∷ request_of 90 ∷ request_of 91 ∷ request_of 92 ∷ request_of 93 ∷ request_of 94 ∷ request_of 95 ∷ request_of 96 ∷ request_of 65 ∷ request_of 97 ∷ request_of 66 ∷ []; allowed = [] }
@@ -263,7 +263,7 @@ row13 =
     ∷ (record { caller = 35; request = 35; call = (Select 2 0); reply = (Lead 34 2) }) ∷ []
 
 pub row13_is_legal : IsLegal row13_roster row13_names row13
-row13_is_legal = ((((((((((((((((((((((((((((((((((((((((((((((((((((((((((((((((((((((((((((((((((((((((((((((((((((((((((((((((((((((((((((((((((((((((((tt, λ _. (refl, refl)), λ _. (refl, refl)), λ _. (refl, refl)), λ _. (refl, refl)), λ _. (refl, refl)), λ _. (refl, refl)), λ _. (refl, refl)), λ _. (refl, refl)), λ _. (refl, refl)), λ _. (refl, refl)), λ _. (refl, refl)), λ _. (refl, refl)), λ _. (refl, refl)), λ _. (refl, refl)), λ _. (refl, refl)), λ _. (refl, refl)), λ _. (refl, refl)), λ _. (refl, refl)), λ _. (refl, refl)), λ _. (refl, refl)), λ _. (refl, refl)), λ _. (refl, refl)), λ _. (refl, refl)), λ _. (refl, refl)), λ _. (refl, refl)), λ _. (refl, refl)), λ _. (refl, refl)), λ _. (refl, refl)), λ _. (refl, refl)), λ _. (refl, refl)), λ _. (refl, refl)), λ _. (refl, refl)), λ _. (refl, refl)), λ _. (refl, refl)), λ _. (refl, refl)), λ _. (refl, refl)), λ _. (refl, refl)), λ _. (refl, refl)), λ _. (refl, refl)), λ _. (refl, refl)), λ _. (refl, refl)), λ _. (refl, refl)), λ _. (refl, refl)), λ _. (refl, refl)), λ _. (refl, refl)), λ _. (refl, refl)), λ _. (refl, refl)), λ _. (refl, refl)), λ _. (refl, refl)), λ _. (refl, refl)), λ _. (refl, refl)), λ _. (refl, refl)), λ _. (refl, refl)), λ _. (refl, refl)), λ _. (refl, refl)), λ _. (refl, refl)), λ _. (refl, refl)), λ _. (refl, refl)), λ _. (refl, refl)), λ _. (refl, refl)), λ _. (refl, refl)), λ _. (refl, refl)), λ _. (refl, refl)), λ _. (refl, refl)), λ _. (refl, refl)), λ _. (refl, refl)), λ _. (refl, refl)), λ _. (refl, refl)), λ _. (refl, refl)), λ _. (refl, refl)), λ _. (refl, refl)), λ _. (refl, refl)), λ _. (refl, refl)), λ _. (refl, refl)), λ _. (refl, refl)), λ _. (refl, refl)), λ _. (refl, refl)), λ _. (refl, refl)), λ _. (refl, refl)), λ _. (refl, refl)), λ _. (refl, refl)), λ _. (refl, refl)), λ _. (refl, refl)), λ _. (refl, refl)), λ _. (refl, refl)), λ _. (refl, refl)), λ _. (refl, refl)), λ _. (refl, refl)), λ _. (refl, refl)), λ _. (refl, refl)), λ _. (refl, refl)), λ _. (refl, refl)), λ _. (refl, refl)), λ _. (refl, refl)), λ _. (refl, refl)), λ _. (refl, refl)), λ _. (refl, refl)), λ _. (refl, refl)), λ _. (refl, refl)), λ _. (refl, refl)), λ _. (refl, refl)), λ _. (refl, refl)), λ _. (refl, refl)), λ _. (refl, refl)), λ _. (refl, refl)), λ _. (refl, refl)), λ _. (refl, refl)), λ _. (refl, refl)), λ _. (refl, refl)), λ _. (refl, refl)), λ _. (refl, refl)), λ _. (refl, refl)), λ _. (refl, refl)), λ _. (refl, refl)), λ _. (refl, refl)), λ _. (refl, refl)), λ _. (refl, refl)), λ _. (refl, refl)), λ _. (refl, refl)), λ _. (refl, refl)), λ _. (refl, refl)), λ _. (refl, refl)), λ _. (refl, refl)), λ _. (refl, refl)), λ _. (refl, refl)), λ _. (refl, refl)), λ _. (refl, refl)), λ _. (refl, refl)), λ _. (refl, refl)), λ _. (refl, refl)), λ _. (refl, refl)), λ _. (refl, refl)), λ _. (refl, refl)), λ _. (refl, refl)), λ _. (refl, refl)), λ _. (refl, refl)), λ _. (refl, refl)), λ _. (refl, refl))
+row13_is_legal = ((((((((((((((((((((((((((((((((((((((((((((((((((((((((((((((((((((((((((((((((((((((((((((((((((((((((((((((((((((((((((((((((((((((((((tt, (refl, refl, refl)), (refl, refl, refl)), (refl, refl, refl)), (refl, refl, refl)), (refl, refl, refl)), (refl, refl, refl)), (refl, refl, refl)), (refl, refl, refl)), (refl, refl, refl)), (refl, refl, refl)), (refl, refl, refl)), (refl, refl, refl)), (refl, refl, refl)), (refl, refl, refl)), (refl, refl, refl)), (refl, refl, refl)), (refl, refl, refl)), (refl, refl, refl)), (refl, refl, refl)), (refl, refl, refl)), (refl, refl, refl)), (refl, refl, refl)), (refl, refl, refl)), (refl, refl, refl)), (refl, refl, refl)), (refl, refl, refl)), (refl, refl, refl)), (refl, refl, refl)), (refl, refl, refl)), (refl, refl, refl)), (refl, refl, refl)), (refl, refl, refl)), (refl, refl, refl)), (refl, refl, refl)), (refl, refl, refl)), (refl, refl, refl)), (refl, refl, refl)), (refl, refl, refl)), (refl, refl, refl)), (refl, refl, refl)), (refl, refl, refl)), (refl, refl, refl)), (refl, refl, refl)), (refl, refl, refl)), (refl, refl, refl)), (refl, refl, refl)), (refl, refl, refl)), (refl, refl, refl)), (refl, refl, refl)), (refl, refl, refl)), (refl, refl, refl)), (refl, refl, refl)), (refl, refl, refl)), (refl, refl, refl)), (refl, refl, refl)), (refl, refl, refl)), (refl, refl, refl)), (refl, refl, refl)), (refl, refl, refl)), (refl, refl, refl)), (refl, refl, refl)), (refl, refl, refl)), (refl, refl, refl)), (refl, refl, refl)), (refl, refl, refl)), (refl, refl, refl)), (refl, refl, refl)), (refl, refl, refl)), (refl, refl, refl)), (refl, refl, refl)), (refl, refl, refl)), (refl, refl, refl)), (refl, refl, refl)), (refl, refl, refl)), (refl, refl, refl)), (refl, refl, refl)), (refl, refl, refl)), (refl, refl, refl)), (refl, refl, refl)), (refl, refl, refl)), (refl, refl, refl)), (refl, refl, refl)), (refl, refl, refl)), (refl, refl, refl)), (refl, refl, refl)), (refl, refl, refl)), (refl, refl, refl)), (refl, refl, refl)), (refl, refl, refl)), (refl, refl, refl)), (refl, refl, refl)), (refl, refl, refl)), (refl, refl, refl)), (refl, refl, refl)), (refl, refl, refl)), (refl, refl, refl)), (refl, refl, refl)), (refl, refl, refl)), (refl, refl, refl)), (refl, refl, refl)), (refl, refl, refl)), (refl, refl, refl)), (refl, refl, refl)), (refl, refl, refl)), (refl, refl, refl)), (refl, refl, refl)), (refl, refl, refl)), (refl, refl, refl)), (refl, refl, refl)), (refl, refl, refl)), (refl, refl, refl)), (refl, refl, refl)), (refl, refl, refl)), (refl, refl, refl)), (refl, refl, refl)), (refl, refl, refl)), (refl, refl, refl)), (refl, refl, refl)), (refl, refl, refl)), (refl, refl, refl)), (refl, refl, refl)), (refl, refl, refl)), (refl, refl, refl)), (refl, refl, refl)), (refl, refl, refl)), (refl, refl, refl)), (refl, refl, refl)), (refl, refl, refl)), (refl, refl, refl)), (refl, refl, refl)), (refl, refl, refl)), (refl, refl, refl)), (refl, refl, refl)), (refl, refl, refl)), (refl, refl, refl)), (refl, refl, refl)), (refl, refl, refl)), (refl, refl, refl))
 
 abbrev row8_roster : Roster
 row8_roster = record { requests = path_request (47 ∷ 100 ∷ 111 ∷ 99 ∷ 115 ∷ 47 ∷ 97 ∷ []) ∷ path_request (47 ∷ 100 ∷ 111 ∷ 99 ∷ 115 ∷ 47 ∷ 98 ∷ 47 ∷ 99 ∷ []) ∷ path_request (47 ∷ 100 ∷ 111 ∷ 99 ∷ 115 ∷ 120 ∷ []) ∷ path_request (47 ∷ []) ∷ []; allowed = [] }
@@ -287,7 +287,7 @@ row8 =
     ∷ (record { caller = 4; request = 4; call = (Preempt Server); reply = Nothing }) ∷ []
 
 pub row8_is_legal : IsLegal row8_roster row8_names row8
-row8_is_legal = ((((((((((((tt, λ _. (refl, refl)), λ _. (refl, refl)), λ _. (refl, refl)), λ _. (refl, refl)), λ _. (refl, refl)), λ _. (refl, refl)), λ _. (refl, refl)), λ _. (refl, refl)), λ _. (refl, refl)), λ _. (refl, refl)), λ _. (refl, refl)), λ _. (refl, refl))
+row8_is_legal = ((((((((((((tt, (refl, refl, refl)), (refl, refl, refl)), (refl, refl, refl)), (refl, refl, refl)), (refl, refl, refl)), (refl, refl, refl)), (refl, refl, refl)), (refl, refl, refl)), (refl, refl, refl)), (refl, refl, refl)), (refl, refl, refl)), (refl, refl, refl))
 
 abbrev row12_roster : Roster
 row12_roster = record { requests = request_of 65 ∷ []; allowed = [] }
@@ -312,7 +312,7 @@ row12 =
     ∷ (record { caller = 1; request = 1; call = (Answer 4 4 2); reply = (Given (record { space = 2; ordinal = 1 }) 0) }) ∷ []
 
 pub row12_is_legal : IsLegal row12_roster row12_names row12
-row12_is_legal = (((((((((((((tt, λ _. (refl, refl)), λ _. (refl, refl)), λ _. (refl, refl)), λ _. (refl, refl)), λ _. (refl, refl)), λ _. (refl, refl)), λ _. (refl, refl)), λ _. (refl, refl)), λ _. (refl, refl)), λ _. (refl, refl)), λ _. (refl, refl)), λ _. (refl, refl)), λ _. (refl, refl))
+row12_is_legal = (((((((((((((tt, (refl, refl, refl)), (refl, refl, refl)), (refl, refl, refl)), (refl, refl, refl)), (refl, refl, refl)), (refl, refl, refl)), (refl, refl, refl)), (refl, refl, refl)), (refl, refl, refl)), (refl, refl, refl)), (refl, refl, refl)), (refl, refl, refl)), (refl, refl, refl))
 
 -- the draws of the request, behind its calls
 abbrev row12_traces : List (List Step_told)

@@ -5,7 +5,8 @@ use Rattle.spaces.specs.declared.roster.Roster.{Roster}
 use Rattle.spaces.specs.declared.site.Site.{Site}
 use Rattle.spaces.specs.ProtectionSpaces.{ProtectionSpace}
 use Rattle.spaces.specs.declared.site.Target.{Target}
-use Rattle.spaces.specs.declared.site.Target.TheVariants.{Server}
+use Rattle.spaces.specs.declared.roster.Request.{Request}
+use Rattle.spaces.specs.declared.site.Target.TheVariants.{Server, Proxy, Socks}
 use Rattle.spaces.specs.declared.space.Scheme.{Scheme}
 use Rattle.spaces.specs.declared.space.Scheme.TheVariants.{Basic, Digest, Negotiate}
 use Rattle.spaces.specs.Sites.{numbered, site, path, same_site, same_origin, same_target}
@@ -17,6 +18,7 @@ use Rattle.auth_events.specs.declared.journal.BookReply.{BookReply}
 use Rattle.auth_events.specs.declared.journal.BookReply.TheVariants.{Begun, Ready, Nothing, Url, Cached, Default, Follow, Lead, Removed, Kept, Renewed, Given, Cancelled, Lost, Pending, Gave, Noted, Ended}
 use Rattle.auth_events.specs.declared.journal.Entry.{Entry}
 use Rattle.auth_events.specs.Tables.{Tables}
+use Rattle.auth_events.specs.Pages.{fits}
 use Rattle.auth_events.specs.Past.{takes_away, current, live, spaces_given, evicted, current_ordinal, givings, terms, lead, settled, open_lead, leads, leads_of, end, prompt_led, prompt_followed, is_lead, selects}
 
 -- a directory, and how many entries stood before the one that noted it
@@ -71,6 +73,10 @@ ends _ = false
 abbrev pub draws : Call → Bool
 draws (Draw nonce) = true
 draws _ = false
+
+-- the entries of calls, without the draws
+abbrev pub without_draws : List Entry → List Entry
+without_draws history = filter (λ entry. not (draws entry.call)) history
 
 abbrev pub preempts : Call → Target → Bool
 preempts (Preempt t) target = same_target t target
@@ -136,12 +142,9 @@ longer a b = nat_lt (length b.dir) (length a.dir) || length a.dir == length b.di
 
 -- CHOICE
 
--- the entry is one of the request, and no draw
-abbrev pub is_own : Entry → ℕ → Bool
-is_own entry r = entry.request == r && not (draws entry.call)
-
+-- the entries of the request
 abbrev pub own : List Entry → ℕ → List Entry
-own past r = filter (λ entry. is_own entry r) past
+own past r = filter (λ entry. entry.request == r) past
 
 -- the reply `Url` stands in the request's entries
 abbrev pub was_url_told : List Entry → ℕ → Bool
@@ -181,8 +184,8 @@ abbrev pub no_entry : List Entry → ℕ → Bool
 no_entry past r = length (own past r) == 0
 
 -- what a prompt's answer gives in the space
-abbrev pub given_answer : List Entry → ℕ → ℕ → BookReply
-given_answer past s text = if text == 0 then Cancelled else Given (next_gift past s) (evicted past s)
+abbrev pub given_answer : (ℕ → Bool) → List Entry → ℕ → ℕ → BookReply
+given_answer is_rival past s text = if text == 0 then Cancelled else Given (next_gift past s) (evicted is_rival past s)
 
 -- of two places that were found the better one: the longer directory, and of equal ones the one that was added last
 abbrev pub better : Option Found → Option Found → Option Found
@@ -203,12 +206,19 @@ first_choice false None true led = By_default
 first_choice false None false (Some entry) = By_following (prompt_led entry.reply)
 first_choice false None false None = By_leading
 
-abbrev pub select_answer : List Entry → ℕ → Choice → BookReply
-select_answer past s By_url = Url (next_gift past s) (evicted past s)
-select_answer past s (By_cache gift) = Cached gift
-select_answer past s By_default = Default
-select_answer past s (By_following p) = Follow p
-select_answer past s By_leading = Lead (leads past + 1) (leads_of past s + 1)
+-- the reply to a `Select` by the choice
+abbrev pub select_answer : (ℕ → Bool) → List Entry → ℕ → Choice → BookReply
+select_answer is_rival past s By_url = Url (next_gift past s) (evicted is_rival past s)
+select_answer is_rival past s (By_cache gift) = Cached gift
+select_answer is_rival past s By_default = Default
+select_answer is_rival past s (By_following p) = Follow p
+select_answer is_rival past s By_leading = Lead (leads past + 1) (leads_of past s + 1)
+
+-- the target is on the request's way: the proxy, where it has one, and the server
+abbrev pub is_on_route : Request → Target → Bool
+is_on_route request Server = true
+is_on_route request Proxy = is_some request.proxy
+is_on_route request Socks = false
 
 -- what the names tell
 
@@ -226,6 +236,10 @@ module _ (names : Tables) where
 
   abbrev pub is_of_site : Site → ℕ → Bool
   is_of_site place s = unwrap_or (option_map (λ space. same_site space.site place) (space_named s)) false
+
+  -- giving the space may evict the other one: any space may go
+  abbrev pub is_rival : ℕ → ℕ → Bool
+  is_rival s other = true
 
   abbrev pub nonce_of : ℕ → ℕ
   nonce_of t = unwrap_or (option_map (λ name. name.nonce) (numbered names.terms t)) 0
@@ -341,10 +355,10 @@ module _ (roster : Roster) (names : Tables) where
   abbrev pub answer : List Entry → ℕ → Call → BookReply
   answer past r Begin = Begun
   answer past r (Preempt target) = preempt_answer names past (space_by_path past r target)
-  answer past r (Select space t) = select_answer past space (choice past r space)
+  answer past r (Select space t) = select_answer (is_rival names space) past space (choice past r space)
   answer past r (Reject space ordinal) = kept_or past (record { space = space; ordinal = ordinal }) Removed
   answer past r (Renew gift t) = kept_or past gift Renewed
-  answer past r (Answer prompt text t) = given_answer past (space_of_prompt past prompt) text
+  answer past r (Answer prompt text t) = given_answer (is_rival names (space_of_prompt past prompt)) past (space_of_prompt past prompt) text
   answer past r (Lose prompt loss) = Lost loss
   answer past r (Take prompt) = end past prompt
   answer past r (Note gift) = kept_or past gift Noted
@@ -355,7 +369,7 @@ module _ (roster : Roster) (names : Tables) where
   abbrev pub allowed_call : List Entry → ℕ → Call → Bool
   allowed_call past r Begin = is_some (numbered roster.requests r)
   allowed_call past r (Preempt target) =
-      is_some (option_and_then (λ request. site request target) (numbered roster.requests r)) && not (list_any (λ entry. preempts entry.call target) (own past r))
+      unwrap_or (option_map (λ request. is_on_route request target) (numbered roster.requests r)) false && not (list_any (λ entry. preempts entry.call target) (own past r))
   allowed_call past r (Select space t) =
       unwrap_or (option_map (is_site_of roster r) (space_named names space)) false && fits_space names space t && not (waits past r)
   allowed_call past r (Reject space ordinal) =
@@ -376,16 +390,18 @@ module _ (roster : Roster) (names : Tables) where
   allowed past caller r call =
       (if begins call then no_entry past r else is_open past caller r) && allowed_call past r call
 
-  -- the entry was asked for under its conditions, and its reply is the answer; draws are judged apart
+  -- the entry was asked for under its conditions, its reply is the answer, and both stand in one row of the table of calls
   abbrev pub IsStep : List Entry → Entry → Type 0
   IsStep past entry =
-      draws entry.call ≡ false
-      → IsTrue (allowed past entry.caller entry.request entry.call) × (entry.reply ≡ answer past entry.request entry.call)
+      IsTrue (allowed past entry.caller entry.request entry.call)
+      × (entry.reply ≡ answer past entry.request entry.call)
+      × IsTrue (fits entry.call entry.reply)
 
+  -- each entry of the past, the latest first, is a step from those before it
   abbrev pub IsLegalPast : List Entry → Type 0
   IsLegalPast [] = Unit {0}
   IsLegalPast (entry ∷ past) = IsLegalPast past × IsStep past entry
 
-  -- a history is a list of entries, the earliest first
+  -- a history is a list of entries, the earliest first; draws are judged apart
   abbrev pub IsLegal : List Entry → Type 0
-  IsLegal history = IsLegalPast (reverse history)
+  IsLegal history = IsLegalPast (reverse (without_draws history))

@@ -1,12 +1,14 @@
-//! What is asked of a book of credentials, what it replies, and the journal of both.
+//! A book of credentials: what may be asked of it, what it replies, and when a history of calls and
+//! draws is legal and fresh. A legal history is defined over the list of its entries alone, so that
+//! every book, whatever it keeps, is judged by the same few definitions.
 #![tactic(auto)]
 
 mod controller;
 mod journal;
 mod names;
-mod uses;
+mod told;
 
-pub use controller::{Controller, Did, NameKind, NewName, TermsRef, Told};
+pub use controller::{Controller, Did, TermsRef};
 pub use journal::{BookReply, Call, Drawn, Entry, Gift, Journal, Loss};
 pub use names::{Names, NonceName, TermsName};
-pub use uses::begin;
+pub use told::{NameKind, NewName, Told};
