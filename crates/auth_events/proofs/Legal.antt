@@ -1,7 +1,7 @@
 -- A legal journal, and one entry more.
 use Rattle.std.proofs.Common.{◌≡◌, ℕ, ◌<◌, ◌≤◌, ◌≢◌, Bool, true, false, not, ◌&&◌, cond, List, [], ◌∷◌, ◌++◌, length, refl, ap, sym, subst, ◌∙◌, inl, inr, arith, Option, Some, None}
 use Rattle.std.specs.Prelude.{All, count_by, filter, find, reverse, IsTrue, ◌==◌, option_map, unwrap_or, is_some, nat_lt}
-use Rattle.std.specs.List.{list_any}
+use Rattle.std.specs.List.{list_any, list_all}
 use Rattle.std.proofs.lemmas.List.{reverse-append, reverse-reverse}
 use Rattle.std.proofs.lemmas.List.Sums.{length-filter, sum_by-cons, sum_by_push}
 use Rattle.std.proofs.lemmas.List.Elements.{All-head, All-tail, All-nil, All-cons, All-push}
@@ -20,7 +20,7 @@ use Rattle.auth_events.specs.Tables.{Tables}
 use Rattle.auth_events.specs.Pages.{IsPage, IsWithinRoom, HasRoomFor, count_of, fits}
 use Rattle.auth_events.specs.Past.{current, end, settles, taken_from}
 use Rattle.auth_events.specs.Told.{is_pending}
-use Rattle.auth_events.proofs.Numbers.{and_left, and_right, numbered_in}
+use Rattle.auth_events.proofs.Numbers.{and_left, and_right, both, numbered_in}
 use Rattle.auth_events.specs.Book.{Choice, IsLegal, IsLegalPast, allowed, allowed_call, answer, own, draws, is_rival, begins, ends, no_entry, is_open, preempt_answer, ready, select_answer, choice}
 use Rattle.auth_events.specs.Book.Choice.{By_url, By_cache, By_default, By_following, By_leading}
 
@@ -141,6 +141,10 @@ filter_all : (p : Entry → Bool) (xs : List Entry) → All (λ x. IsTrue (p x))
 filter_all p [] all = refl
 filter_all p (x ∷ xs) all =
     ap (λ b. cond b (x ∷ filter p xs) (filter p xs)) (All-head (λ y. IsTrue (p y)) x xs all) ∙ ap (λ ys. x ∷ ys) (filter_all p xs (All-tail (λ y. IsTrue (p y)) x xs all))
+
+pub all_pass : (p : Entry → Bool) (xs : List Entry) → All (λ x. IsTrue (p x)) xs → IsTrue (list_all p xs)
+all_pass p [] all = refl
+all_pass p (x ∷ xs) all = both (p x) (list_all p xs) (All-head (λ y. IsTrue (p y)) x xs all) (all_pass p xs (All-tail (λ y. IsTrue (p y)) x xs all))
 
 abbrev pub IsNoDraw : Entry → Type 0
 IsNoDraw entry = IsTrue (not (draws entry.call))

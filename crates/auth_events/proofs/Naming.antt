@@ -1,5 +1,5 @@
 -- What names keep when a space, terms or a text is named.
-use Rattle.std.proofs.Common.{◌≡◌, ℕ, ◌+◌, ◌<◌, ◌≤◌, Bool, true, false, ◌&&◌, cond, List, [], ◌∷◌, ◌++◌, length, refl, ap, sym, subst, ◌∙◌, inl, inr, ◌⊎◌, arith, Option, Some, None, length-append}
+use Rattle.std.proofs.Common.{◌≡◌, ℕ, ◌+◌, ◌*◌, ◌<◌, ◌≤◌, Bool, true, false, ◌&&◌, cond, List, [], ◌∷◌, ◌++◌, length, refl, ap, sym, subst, ◌∙◌, inl, inr, ◌⊎◌, arith, Option, Some, None, length-append}
 use Rattle.std.specs.Prelude.{IsTrue, ◌==◌, bytes_eq, map, reverse, nat_le, option_map, unwrap_or, is_some}
 use Rattle.std.specs.List.{cons_option}
 use Rattle.std.proofs.lemmas.List.{reverse-append, map-append}
@@ -266,3 +266,49 @@ module _ (names : Tables) (name : TermsName) (kept : AreNames names × AreFew 20
           texts = kept.1.texts;
         },
       )
+
+-- the nonces grow by one at most, and not at all where the nonce has its number
+pub length-with_nonce : (names : Tables) (name : TermsName) → IsTrue (is_home names name.space name.terms) → name.nonce ≡ nonce_for names name.space name.terms → (length (with_nonce names name) ≤ length names.nonces + 1) × (IsTrue (is_some (numbered names.nonces (nonce_for names name.space name.terms))) → length (with_nonce names name) ≡ length names.nonces)
+length-with_nonce names name home is = by (numbered names.spaces name.space) refl (some_of_test _ _ home)
+  where
+    by : (o : Option ProtectionSpace) → numbered names.spaces name.space ≡ o → IsTrue (is_some o) → (length (with_nonce names name) ≤ length names.nonces + 1) × (IsTrue (is_some (numbered names.nonces (nonce_for names name.space name.terms))) → length (with_nonce names name) ≡ length names.nonces)
+    by None at some = absurd (false≢true some)
+    by (Some space) at some =
+        let nonce : NonceName = record { site = space.site; text = name.terms.nonce } in
+        let number : name.nonce ≡ nonce_number names space.site name.terms.nonce = is ∙ ap (λ (o : Option ProtectionSpace). unwrap_or (option_map (λ (s : ProtectionSpace). nonce_number names s.site name.terms.nonce) o) 0) at in
+        elim (known_or_new names name space at number) [
+          | inl known ↦ (let same = ap length known.same in (omega arith, λ found. same))
+          | inr new_nonce ↦
+              (let more = ap length new_nonce.more ∙ length-append names.nonces (nonce ∷ []) in
+              let next = new_nonce.next in (
+                omega arith,
+                λ found. (let range = numbered_in names.nonces (nonce_for names name.space name.terms) found in let high = range.1 in absurd (omega (arith, is, next, high))),
+              ))
+        ]
+
+-- the nonce of terms that are to be named is one of few
+pub nonce_for-few : (names : Tables) (s : ℕ) (terms : Terms) (n : ℕ) → AreFew n names → ((length names.nonces < 16 * n) ⊎ IsTrue (is_some (numbered names.nonces (nonce_for names s terms)))) → nonce_for names s terms ≤ 16 * n
+nonce_for-few names s terms n few (inr found) = let range = numbered_in names.nonces (nonce_for names s terms) found in let high = range.1 in let all = few.nonces in omega arith
+nonce_for-few names s terms n few (inl room) = by (numbered names.spaces s)
+  where
+    of_space : (space : ProtectionSpace) (o : Option ℕ) → number_of (is_that_nonce space.site terms.nonce) names.nonces ≡ o → unwrap_or o (length names.nonces + 1) ≤ 16 * n
+    of_space space None is = omega (arith, room)
+    of_space space (Some k) is =
+        let there = first_numbered (is_that_nonce space.site terms.nonce) names.nonces k is in
+        let range = numbered_in names.nonces k (ap is_some there.is_there) in
+        let high = range.1 in
+        omega (arith, room, high)
+
+    by : (o : Option ProtectionSpace) → unwrap_or (option_map (λ (space : ProtectionSpace). nonce_number names space.site terms.nonce) o) 0 ≤ 16 * n
+    by None = omega arith
+    by (Some space) = of_space space (number_of (is_that_nonce space.site terms.nonce) names.nonces) refl
+
+-- a terms name by its space and its terms
+pub terms_name_is : (name : TermsName) (s : ℕ) (terms : Terms) → name.space ≡ s → name.terms ≡ terms → ◌≡◌ {A = TermsName} (record { space = name.space; terms = name.terms; nonce = name.nonce }) (record { space = s; terms = terms; nonce = name.nonce })
+terms_name_is name s terms same_space' same_terms' = parts name.space s name.terms terms name.nonce same_space' same_terms'
+  where
+    parts : (s s' : ℕ) (t t' : Terms) (n : ℕ) → s ≡ s' → t ≡ t' → ◌≡◌ {A = TermsName} (record { space = s; terms = t; nonce = n }) (record { space = s'; terms = t'; nonce = n })
+    parts s s' t t' n same_s same_t = cc
+
+pub some_is : (a b : TermsName) → Some a ≡ Some b → a ≡ b
+some_is a b same = cc

@@ -6,6 +6,7 @@ use Rattle.std.proofs.Props.{props}
 use Rattle.spaces.specs.Sites.{numbered}
 use Rattle.spaces.specs.declared.roster.Roster.{Roster}
 use Rattle.auth_events.specs.declared.journal.Entry.{Entry}
+use Rattle.auth_events.specs.declared.told.Told.{Told}
 use Rattle.auth_events.specs.declared.names.TermsName.{TermsName}
 use Rattle.auth_events.specs.declared.names.NonceName.{NonceName}
 use Rattle.auth_events.specs.Tables.{Tables, AreNames, AreAtHome, AreFew, IsNumberedOnce, greatest, nonce_numbers, nonce_named, is_home, is_rising}
@@ -55,3 +56,10 @@ AreNames-prop names x y =
 
 pub AreFew-prop : (n : ℕ) (names : Tables) → IsProp (AreFew n names)
 AreFew-prop n names = Prim.hlevel props
+
+code_of_told : Coded (List Told)
+code_of_told = Prim.hlevel codes
+
+-- two told lists that are equal are so in one way
+pub same_told_prop : (a b : List Told) → IsProp (a ≡ b)
+same_told_prop = Coded-set code_of_told

@@ -92,6 +92,10 @@ item_named names caller OfText number = option_map (λ text. TextNamed caller te
 abbrev pub name_told : Tables → NewName → Option Told
 name_told names made = item_named names made.caller made.kind made.number
 
+-- the number of the new name stands for a thing
+abbrev pub IsNamed : Tables → NewName → Type 0
+IsNamed names made = IsTrue (is_some (name_told names made))
+
 -- the names that were made before the entry of that place, and behind the one before it
 abbrev pub names_at : Tables → List NewName → ℕ → List Told
 names_at names made place = filter_map (name_told names) (filter (λ name. name.before == place) made)

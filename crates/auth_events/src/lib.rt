@@ -4,11 +4,15 @@
 #![tactic(auto)]
 
 mod controller;
+mod copies;
+mod identities;
 mod journal;
+mod ledger;
 mod names;
 mod told;
 
 pub use controller::{Controller, Did, TermsRef};
 pub use journal::{BookReply, Call, Drawn, Entry, Gift, Journal, Loss};
+pub use ledger::Ledger;
 pub use names::{Names, NonceName, TermsName};
 pub use told::{NameKind, NewName, Told};
