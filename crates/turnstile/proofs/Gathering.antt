@@ -4,10 +4,10 @@ use lib.ListN.{get_elem?}
 use Rattle.atomic_table.proofs.Lists.{at_longer, at_last}
 use Rattle.turnstile.specs.Totals.{Each}
 use mathlib.Core.List.{IsPrefix}
-use Rattle.turnstile.specs.Past.{keeping, joined, of, IsOwn}
-use Rattle.turnstile.specs.Passes.{PassView}
+use Rattle.turnstile.specs.History.{keeping, joined, IsOwn}
+use Rattle.turnstile.specs.Passes.{PassView, items_of, IsIn}
 use Rattle.turnstile.specs.Knows.{Knows}
-use Rattle.turnstile.specs.declared.past.Past.{Past}
+use Rattle.turnstile.specs.declared.history.Past.{Past}
 
 module _ {I F : Type 0} where
   pub knows_more : (v w : Past I) (p : PassView I F) → Knows v p → Knows (joined v w) p
@@ -33,10 +33,10 @@ parts_of P all back p e h = (
 )
 
 module _ {I F : Type 0} (by : I → ℕ) where
-  pub known_ends : (log : List I) (v : Past I) (p : PassView I F) → Knows v p → Each (λ o. IsPrefix o log) (v.seen ∷ v.olds) → v.mine ≡ of by v.number log → Each (IsOwn by log) v.kept
-      → IsPrefix p.seen log × (p.mine ≡ of by p.number log)
+  pub known_ends : (log : List I) (v : Past I) (p : PassView I F) → Knows v p → Each (λ o. IsPrefix o log) (v.seen ∷ v.olds) → v.mine ≡ items_of by v.number log → Each (IsOwn by log) v.kept
+      → IsIn by log p
   known_ends log v p k olds mine kept = ⊎_elim
-      (λ t. (subst (λ l. IsPrefix l log) (sym t.1) (olds 0 v.seen refl), t.2 ∙ (mine ∙ ap (λ n. of by n log) (sym t.0))))
+      (λ t. (subst (λ l. IsPrefix l log) (sym t.1) (olds 0 v.seen refl), t.2 ∙ (mine ∙ ap (λ n. items_of by n log) (sym t.0))))
       (λ t. (olds (suc t.0.0) p.seen t.0.1, (kept t.1.0 (keeping p.number p.mine) t.1.1).1))
       k
 

@@ -1,9 +1,10 @@
 -- Totals over lists that change at one place.
-use Rattle.std.proofs.Common.{◌≡◌, ℕ, zero, suc, ◌+◌, ◌<◌, ◌≤◌, ◌≢◌, List, [], ◌∷◌, ◌++◌, length, set, sym, refl, ap, subst, ⊎_elim, arith, cond, eq-eqb, ne_eqb}
+use Rattle.std.proofs.Common.{◌≡◌, ℕ, zero, suc, ◌+◌, ◌<◌, ◌≤◌, ◌≢◌, ◌⊎◌, List, [], ◌∷◌, ◌++◌, length, get_or, set, sym, refl, ap, ◌∙◌, subst, inl, inr, ⊎_elim, arith, cond, eq-eqb, ne_eqb, Some}
+use Rattle.std.specs.List.{All, slice_get}
 use mathlib.Core.Option.{some, some-injective, some-ne-none}
 use lib.ListN.{get_elem?}
 use Rattle.atomic_table.proofs.Lists.{at_set, at_snoc}
-use Rattle.turnstile.specs.Totals.{total, is, between}
+use Rattle.turnstile.specs.Totals.{total, is, between, Each, EachAt}
 
 module _ {A : Type 0} (g : A → ℕ) where
   pub total-append : (l m : List A) → total g (l ++ m) ≡ total g l + total g m
@@ -63,9 +64,6 @@ is_else n m ne = ap (λ b. cond b 1 0) (ne_eqb m n ne)
 pub between_in : (n a b : ℕ) → 0 < between n a b → (a ≤ n) × (n < b)
 between_in n a b h = grind arith
 
-pub between_here : (n a b : ℕ) → a ≤ n → n < b → between n a b ≡ 1
-between_here n a b h h' = grind arith
-
 pub between_le : (n a b : ℕ) → between n a b ≤ 1
 between_le n a b = grind arith
 
@@ -75,9 +73,43 @@ between_next n a b h = grind arith
 pub between_served : (n a b : ℕ) → a < b → between n a b ≡ is n a + between n (a + 1) b
 between_served n a b h = grind arith
 
-pub empty : {A : Type 0} (g : A → ℕ) (l : List A) → length l ≤ 0 → total g l ≡ 0
-empty g [] e = refl
-empty g (x ∷ xs) e = absurd (omega arith)
-
 pub between_none : (n : ℕ) → between n 0 0 ≡ 0
 between_none n = grind arith
+
+at_end : {A : Type 0} (l : List A) (w u : A) (j : ℕ) → get_elem? (l ++ w ∷ []) j ≡ some u → (get_elem? l j ≡ some u) ⊎ ((j ≡ length l) × (w ≡ u))
+at_end [] w u zero e = inr (refl, some-injective w u e)
+at_end [] w u (suc j) e = absurd (some-ne-none u (sym e))
+at_end (x ∷ xs) w u zero e = inl e
+at_end (x ∷ xs) w u (suc j) e = ⊎_elim (λ t. inl t) (λ t. inr (ap suc t.0, t.1)) (at_end xs w u j e)
+
+-- what holds at each place holds with one more at the end
+pub at_each_snoc : {A : Type 0} (P : ℕ → A → Type 0) (l : List A) (n : ℕ) (w : A) → length l ≡ n → P n w → EachAt P l → EachAt P (l ++ w ∷ [])
+at_each_snoc P l n w len p h j u e = ⊎_elim (λ (t : get_elem? l j ≡ some u). h j u t) (λ (t : (j ≡ length l) × (w ≡ u)). subst (P j) t.1 (subst (λ m. P m w) (sym (t.0 ∙ len)) p)) (at_end l w u j e)
+
+pub within : {A : Type 0} (l : List A) (j : ℕ) (u : A) → get_elem? l j ≡ some u → j < length l
+within [] j u e = absurd (some-ne-none u (sym e))
+within (x ∷ xs) zero u e = omega arith
+within (x ∷ xs) (suc j) u e = omega (arith, within xs j u e)
+
+at_place : {A : Type 0} (l : List A) (j : ℕ) (u : A) → get_elem? l j ≡ some u → get_or l j u ≡ u
+at_place [] j u e = refl
+at_place (x ∷ xs) zero u e = some-injective x u e
+at_place (x ∷ xs) (suc j) u e = at_place xs j u e
+
+at_or : {A : Type 0} (l : List A) (j : ℕ) (d : A) → j < length l → get_elem? l j ≡ some (get_or l j d)
+at_or [] j d lt = absurd (omega arith)
+at_or (x ∷ xs) zero d lt = refl
+at_or (x ∷ xs) (suc j) d lt = at_or xs j d (omega arith)
+
+-- the two ways to say that P holds of each element
+pub each_of_all : {A : Type 0} (P : A → Type 0) (l : List A) → All P l → Each P l
+each_of_all P l h j u e = subst P (at_place l j u e) (h j u (within l j u e))
+
+pub all_of_each : {A : Type 0} (P : A → Type 0) (l : List A) → Each P l → All P l
+all_of_each P l h j d lt = h j (get_or l j d) (at_or l j d lt)
+
+-- the two ways to look an element up
+pub at_get : {A : Type 0} (l : List A) (j : ℕ) (u : A) → slice_get l j ≡ Some u → get_elem? l j ≡ some u
+at_get [] j u e = absurd (cc e)
+at_get (x ∷ xs) zero u e = ap some (cc e)
+at_get (x ∷ xs) (suc j) u e = at_get xs j u e

@@ -2,9 +2,9 @@
 use Rattle.std.specs.Prelude.{◌≡◌, ℕ, ◌⊎◌}
 use mathlib.Core.Option.{some}
 use lib.ListN.{get_elem?}
-use Rattle.turnstile.specs.Past.{keeping}
+use Rattle.turnstile.specs.History.{keeping}
 use Rattle.turnstile.specs.Passes.{PassView}
-use Rattle.turnstile.specs.declared.past.Past.{Past}
+use Rattle.turnstile.specs.declared.history.Past.{Past}
 
 -- it is the pass's own, or it keeps what the pass had seen and made
 abbrev pub Knows : {I F : Type 0} → Past I → PassView I F → Type 0

@@ -1,9 +1,12 @@
--- The name of a table as plain data.
+-- A history's table as plain data, as views hold it.
+use Rattle.std.specs.Prelude.{ℕ}
 use Rattle.atomic_table.specs.Seated.{TableId}
-use Rattle.turnstile.specs.declared.name.Name.{Name}
+use Rattle.turnstile.specs.declared.history.HistoryName.{HistoryName}
 
-abbrev pub name_of : TableId → Name
-name_of z = record { words = z.words; slots = z.slots; views_name = z.views_name; atom = z.atom; block = z.block; offset = z.offset; slot_names = z.slot_names }
+-- the name of a table that was made for this many passes
+abbrev pub name_of : ℕ → TableId → HistoryName
+name_of passes z = record { passes = passes; words = z.words; slots = z.slots; views_name = z.views_name; atom = z.atom; block = z.block; offset = z.offset; slot_names = z.slot_names }
 
-abbrev pub id_of : Name → TableId
+-- the table of a name
+abbrev pub id_of : HistoryName → TableId
 id_of n = record { words = n.words; slots = n.slots; views_name = n.views_name; atom = n.atom; block = n.block; offset = n.offset; slot_names = n.slot_names }

@@ -1,38 +1,37 @@
-// How a turnstile is made.
+//! How a turnstile is made: the history's table with a seat for each pass, then the turns' table round the value, then the passes.
 ghost use Rattle.std.specs.Prelude.{◌≡◌, ℕ, ◌+◌, ◌<◌, ◌≤◌, ◌^◌, ◌∷◌, [], length, vec_len, vec_capacity, Some, IfSome, IfOk, IfErr};
-ghost use Rattle.turnstile.specs.Totals.{Each};
-ghost use Rattle.turnstile.specs.Past.{past};
+ghost use Rattle.turnstile.specs.History.{past};
 ghost use Rattle.turnstile.specs.Names.{name_of};
-ghost use Rattle.turnstile.specs.Turn.{turn};
-ghost use Rattle.turnstile.specs.Opening.{IsNewSeat, IsNewPass};
+ghost use Rattle.turnstile.specs.Turns.{turn};
+ghost use Rattle.turnstile.specs.Opening.{AreNewSeats, AreDealt};
 
+use crate::history::{Founds, HistoryRule, Past};
 use crate::pass::Pass;
-use crate::past::{Founds, Past, Telling};
 use crate::told::Told;
-use crate::turn::{At, Cuts, Key, Of, Turn, Turning};
+use crate::turns::{Cuts, Deposit, Key, Of, Turn, TurnRule};
 use atomic_table::{Refused, Seat, Table};
 use std::alloc::Global;
-use std::snapshot::Snapshot;
 
-pub type History<S> = Table<(), Past<<S as Told>::Item>, (), Telling<S>, Global>;
+/// There was no memory. The value comes back as it was.
+#[derive(Drop)]
+pub struct NotMade<S> {
+    pub state: S,
+}
 
-pub type Turns<S> = Table<Option<At<S>>, Turn<<S as Told>::Fixed>, Key<S>, Turning<S>, Global>;
-
-// The history's table, the home seat, and a seat for each pass.
+// The history's table, the home seat, and a seat for each pass, numbered from 1.
 pub(crate) fn found<S: Told>(
     alloc: Global,
     passes: u32,
 ) -> Option<
     (
-        Table<(), Past<S::Item>, (), Telling<S>, Global>,
+        Table<(), Past<S::Item>, (), HistoryRule<S>, Global>,
         Seat<(), Past<S::Item>>,
         Vec<Seat<(), Past<S::Item>>>,
     ),
 >
-    requires { 0 < passes }
     ensures table { IfSome result (λ r. r.0.shared.table_id.words ≡ 1) }
     ensures home { IfSome result (λ r. (r.1.table_id ≡ r.0.shared.table_id) × (r.1.me ≡ (past 0 1 passes [] [] [] [], []))) }
-    ensures pasts { IfSome result (λ r. (vec_len r.2 ≡ passes) × (passes ≤ vec_capacity r.2) × Each (IsNewSeat r.0.shared.table_id) r.2.items) }
+    ensures pasts { IfSome result (λ r. (vec_len r.2 ≡ passes) × AreNewSeats r.0.shared.table_id r.2.items) }
 {
     let Ok((history, mut home)) = Table::of_words(alloc, &[0], &()) else {
         return None;
@@ -47,41 +46,7 @@ pub(crate) fn found<S: Told>(
     Some((history, home, pasts))
 }
 
-// The passes of these seats, of which the first turn's seat stands for all.
-pub(crate) fn deal<S: Told>(
-    turns: &Table<Option<At<S>>, Turn<S::Fixed>, Key<S>, Turning<S>, Global>,
-    mut seat: Seat<Option<At<S>>, Turn<S::Fixed>>,
-    mut pasts: Vec<Seat<(), Past<S::Item>>>,
-    mut passes: Vec<Pass<S>>,
-) -> Vec<Pass<S>>
-    requires table { (seat.table_id ≡ turns.now.shared.table_id) × (turns.now.shared.table_id.words ≡ 2) × (seat.me.1 ≡ []) }
-    requires seat { seat.me.0 ≡ turn (vec_len pasts) [] 0 (Some (S.fixed turns.now.shared.key.state.value)) (name_of turns.now.shared.key.past.table_id) }
-    requires room { (0 < vec_len pasts) × (vec_len passes ≡ 0) × (vec_len pasts ≤ vec_capacity passes) }
-    requires pasts { Each (IsNewSeat turns.now.shared.key.past.table_id) pasts.items }
-    ensures len { vec_len result ≡ vec_len pasts }
-    ensures each { Each (IsNewPass turns.now.shared.key.past.table_id turns.now.shared.table_id (Some (S.fixed turns.now.shared.key.state.value))) result.items }
-{
-    while pasts.len() > 1 {
-        let Some(past) = pasts.pop() else {
-            unreachable!()
-        };
-        let turn = turns.shared.split_seat::<Cuts>(&mut seat);
-        passes.push_reserved(Pass { past, turn });
-    }
-    let Some(past) = pasts.pop() else {
-        unreachable!()
-    };
-    passes.push_reserved(Pass { past, turn: seat });
-    passes
-}
-
-/// There was no memory. The state comes back.
-#[derive(Drop)]
-pub struct NotMade<S> {
-    pub state: S,
-}
-
-// The turns' table with the state in it, and its first seat.
+// The turns' table with the value in its slot, and the seat that stands for all passes.
 pub(crate) fn enclose<S: Told>(
     alloc: Global,
     key: &Key<S>,
@@ -89,21 +54,22 @@ pub(crate) fn enclose<S: Told>(
     home: Seat<(), Past<S::Item>>,
 ) -> Result<
     (
-        Table<Option<At<S>>, Turn<S::Fixed>, Key<S>, Turning<S>, Global>,
-        Seat<Option<At<S>>, Turn<S::Fixed>>,
+        Table<Option<Deposit<S>>, Turn<S::Fixed>, Key<S>, TurnRule<S>, Global>,
+        Seat<Option<Deposit<S>>, Turn<S::Fixed>>,
     ),
     NotMade<S>,
 >
     requires small { key.now.passes < 2 ^ 32 }
-    requires key { (key.now.state.value ≡ state) × (home.table_id ≡ key.now.past.table_id) }
-    requires home { (S.items state ≡ []) × (home.me.0.seen ≡ []) × (home.me.0.home ≡ 1) × (home.me.0.number ≡ 0) × (home.me.0.kept ≡ []) × (home.me.1 ≡ []) }
-    ensures ok { IfOk result (λ r. (r.0.shared.table_id.words ≡ 2) × (r.0.shared.table_id.slots ≡ 1) × (r.0.shared.key ≡ key.now) × (r.1.table_id ≡ r.0.shared.table_id) × (r.1.me ≡ (turn key.now.passes [] 0 (Some (S.fixed state)) (name_of key.now.past.table_id), []))) }
+    requires key { (key.now.state.value ≡ state) × (key.now.home.value.table_id ≡ home.table_id) }
+    requires home { (S.items state ≡ []) × (home.me ≡ (past 0 1 key.now.passes [] [] [] [], [])) }
+    ensures ok { IfOk result (λ r. (r.0.shared.table_id.words ≡ 2) × (r.0.shared.table_id.slots ≡ 1) × (r.0.shared.key ≡ key.now)) }
+    ensures seat { IfOk result (λ r. (r.1.table_id ≡ r.0.shared.table_id) × (r.1.me ≡ (turn key.now.passes [] 0 (Some (S.fixed state)) (name_of key.now.passes home.table_id), []))) }
     ensures err { IfErr result (λ e. e.state ≡ state) }
 {
     let Ok(mut slots) = Vec::with_capacity(alloc, 1) else {
         return Err(NotMade { state });
     };
-    slots.push_reserved(Some(At {
+    slots.push_reserved(Some(Deposit {
         of: Of::new(),
         state,
         home,
@@ -115,13 +81,34 @@ pub(crate) fn enclose<S: Told>(
             let last = slots.pop();
             slots.destroy_empty();
             let Some(slot) = last else { unreachable!() };
-            let Some(at) = slot else { unreachable!() };
-            let At {
+            let Some(deposit) = slot else { unreachable!() };
+            let Deposit {
                 of: _,
                 state,
                 home: _,
-            } = at;
+            } = deposit;
             Err(NotMade { state })
         }
     }
+}
+
+// A pass for each of the history's seats, in their order. Each has a seat of the turns that stands for one pass.
+pub(crate) fn deal<S: Told>(
+    turns: &Table<Option<Deposit<S>>, Turn<S::Fixed>, Key<S>, TurnRule<S>, Global>,
+    mut seat: Seat<Option<Deposit<S>>, Turn<S::Fixed>>,
+    pasts: Vec<Seat<(), Past<S::Item>>>,
+    mut passes: Vec<Pass<S>>,
+) -> Vec<Pass<S>>
+    requires table { (seat.table_id ≡ turns.now.shared.table_id) × (turns.now.shared.table_id.words ≡ 2) }
+    requires seat { seat.me ≡ (turn (vec_len pasts) [] 0 (Some (S.fixed turns.now.shared.key.state.value)) (name_of turns.now.shared.key.passes turns.now.shared.key.home.value.table_id), []) }
+    requires room { (vec_len passes ≡ 0) × (vec_len pasts ≤ vec_capacity passes) }
+    requires pasts { AreNewSeats turns.now.shared.key.home.value.table_id pasts.items }
+    ensures len { vec_len result ≡ vec_len pasts }
+    ensures each { AreDealt turns.now.shared.key.home.value.table_id turns.now.shared.table_id (Some (S.fixed turns.now.shared.key.state.value)) result.items }
+{
+    for past in pasts {
+        let turn = turns.shared.split_seat::<Cuts>(&mut seat);
+        passes.push_reserved(Pass { past, turn });
+    }
+    passes
 }

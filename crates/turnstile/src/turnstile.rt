@@ -1,170 +1,190 @@
-ghost use Rattle.std.specs.Prelude.{◌≡◌, ℕ, ◌+◌, ◌^◌, ◌<◌, ◌≤◌, ◌++◌, ◌∷◌, [], length, drop, Some, None, vec_len, IfOk, IfErr};
+//! The turnstile: `enter` waits for a turn and takes the value out, `leave` puts it back and ends the turn, `close` gives it up.
+//! A turn is one ticket. The value is put back before the next ticket is served, so no two turns have it at once.
+ghost use Rattle.std.specs.Prelude.{◌≡◌, ℕ, ◌+◌, ◌<◌, ◌++◌, ◌∷◌, [], All, length, slice_get, Some, None, vec_len, IfOk, IfErr};
 ghost use mathlib.Core.List.{IsPrefix};
 ghost use Rattle.turnstile.specs.Totals.{Each};
-ghost use Rattle.turnstile.specs.Past.{of};
+ghost use Rattle.turnstile.specs.Passes.{IsIn, IsMade, added};
 ghost use Rattle.turnstile.specs.Names.{id_of};
 
+use crate::history::{HistoryRule, HomeIn, HomeOut, Joins, Looks, News, Past, Publishes};
 use crate::opening::{NotMade, deal, enclose, found};
 use crate::pass::{Inside, Pass};
-use crate::past::{HomeIn, HomeOut, Joins, Looks, News, Past, Publishes, Telling};
+use crate::passes::Passes;
 use crate::told::Told;
-use crate::turn::{Advances, At, Draws, Key, Of, Surely, Takes, Together, Turn, Turning};
+use crate::turns::{Advances, Deposit, Draws, Key, Of, Takes, Together, Turn, TurnRule};
 use atomic_table::{Seat, Table};
 use std::alloc::Global;
 use std::marker::{Brand, Model};
 use std::snapshot::Snapshot;
 use std::sync::Wait;
 
-/// The value, which one thread at a time may have.
+/// A value that one thread at a time may have, in turns. Threads share it by reference.
 pub struct Turnstile<S: Told> {
-    history: Table<(), Past<S::Item>, (), Telling<S>, Global>,
-    turns: Table<Option<At<S>>, Turn<S::Fixed>, Key<S>, Turning<S>, Global>,
+    history: Table<(), Past<S::Item>, (), HistoryRule<S>, Global>,
+    turns: Table<Option<Deposit<S>>, Turn<S::Fixed>, Key<S>, TurnRule<S>, Global>,
 }
 
 impl<S: Told> Model for Turnstile<S> {
-    ghost use Rattle.std.specs.Prelude.{◌≡◌};
+    ghost use Rattle.std.specs.Prelude.{◌≡◌, ◌<◌};
     ghost use Rattle.turnstile.specs.Passes.{TurnstileView};
 
-    ghost Value = { TurnstileView };
+    ghost Value = { TurnstileView S.Fixed };
 
-    ghost view = { λ t. record { history = t.history.shared.table_id; turns = t.turns.shared.table_id; passes = t.turns.shared.key.passes } };
+    ghost view = { λ t. record { passes = t.turns.shared.key.passes; fixed = S.fixed t.turns.shared.key.state.value; history = t.history.shared.table_id; turns = t.turns.shared.table_id } };
 
-    ghost invariant = { λ t. (t.history.shared.table_id.words ≡ 1) × (t.turns.shared.table_id.words ≡ 2) × (t.turns.shared.table_id.slots ≡ 1) × (t.turns.shared.key.past.table_id ≡ t.history.shared.table_id) };
+    ghost invariant = { λ t. (t.history.shared.table_id.words ≡ 1) × (t.turns.shared.table_id.words ≡ 2) × (t.turns.shared.table_id.slots ≡ 1) × (t.turns.shared.key.home.value.table_id ≡ t.history.shared.table_id) × (0 < t.turns.shared.key.passes) };
 }
 
 impl<S: Told> Turnstile<S> {
-    ghost use Rattle.turnstile.specs.Passes.{IsOf};
+    ghost use Rattle.turnstile.specs.Passes.{IsOf, IsNewPass};
     ghost use Rattle.turnstile.specs.Knows.{Knows};
-    ghost use Rattle.turnstile.specs.Opening.{IsNewPass};
 
-    /// A turnstile round the state, which tells nothing yet, and its passes.
+    /// A turnstile round a value that tells nothing yet, with its passes, which are numbered from 1 as they stand in the list.
     pub fn new(
         alloc: Global,
         state: S,
         passes: u32,
-    ) -> Result<(Turnstile<S>, Vec<Pass<S>>), NotMade<S>>
-        requires { (0 < passes) × (S.items state ≡ []) }
-        ensures ok { IfOk result (λ r. (r.0.passes ≡ passes) × (vec_len r.1 ≡ passes)) }
-        ensures passes { IfOk result (λ r. Each (IsNewPass r.0.history r.0.turns (Some (S.fixed state))) r.1.items) }
+    ) -> Result<(Turnstile<S>, Passes<S>), NotMade<S>>
+        requires some { 0 < passes }
+        requires empty { S.items state ≡ [] }
+        ensures ok { IfOk result (λ r. (r.0.passes ≡ passes) × (r.0.fixed ≡ S.fixed state)) }
+        ensures len { IfOk result (λ r. length r.1.list ≡ passes) }
+        ensures passes { IfOk result (λ r. (k : ℕ) (p : _) → slice_get r.1.list k ≡ Some p → IsNewPass r.0 (k + 1) p) }
         ensures err { IfErr result (λ e. e.state ≡ state) }
     {
-        let Ok(made) = Vec::with_capacity(alloc, passes as usize) else {
+        let Ok(list) = Vec::with_capacity(alloc, passes as usize) else {
             return Err(NotMade { state });
         };
-        let Some((history, home, mut pasts)) = found::<S>(alloc, passes) else {
+        let Some((history, home, pasts)) = found::<S>(alloc, passes) else {
             return Err(NotMade { state });
-        };
-        let Some(past) = pasts.pop() else {
-            unreachable!()
         };
         let key = Key {
             passes,
             state: Snapshot::of(&state),
-            past,
+            home: Snapshot::of(&home),
         };
         let (turns, seat) = match enclose(alloc, &key, state, home) {
             Ok(enclosed) => enclosed,
             Err(refused) => return Err(refused),
         };
-        let Key {
-            passes: _,
-            state: _,
-            past,
-        } = key;
-        pasts.push_reserved(past);
-        let all = deal(&turns, seat, pasts, made);
-        Ok((Turnstile { history, turns }, all))
+        let list = deal(&turns, seat, pasts, list);
+        Ok((Turnstile { history, turns }, Passes { list }))
     }
 
-    // What the seat took out.
-    fn open(
-        &self,
-        mut turn: Seat<Option<At<S>>, Turn<S::Fixed>>,
-    ) -> (Seat<Option<At<S>>, Turn<S::Fixed>>, At<S>)
-        requires table { turn.table_id ≡ self.now.turns }
-        requires took { (a : _) × (turn.me.1 ≡ (0, Some a) ∷ []) × (a.home.table_id ≡ id_of turn.me.0.history) × (turn.me.0.fixed ≡ Some (S.fixed a.state)) }
-        ensures seat { (result.0.table_id ≡ turn.table_id) × (result.0.id ≡ turn.id) × (result.0.me ≡ (turn.me.0, (0, None) ∷ [])) }
-        ensures at { (result.1.home.table_id ≡ id_of turn.me.0.history) × (turn.me.0.fixed ≡ Some (S.fixed result.1.state)) }
-    {
-        let at = self.turns.shared.exchange(&mut turn, 0, None).unwrap();
-        (turn, at)
-    }
-
-    // Waits for the turn.
-    fn take_turn<R: Wait>(
-        &self,
-        rt: &R,
-        mut turn: Seat<Option<At<S>>, Turn<S::Fixed>>,
-    ) -> (Seat<Option<At<S>>, Turn<S::Fixed>>, At<S>)
-        requires table { turn.table_id ≡ self.now.turns }
-        requires rests { (turn.me.1 ≡ []) × (turn.me.0.tickets ≡ []) × (turn.me.0.holds ≡ 0) × (0 < turn.me.0.parts) }
-        ensures seat { (result.0.table_id ≡ turn.table_id) × (result.0.me.1 ≡ (0, None) ∷ []) × (result.0.me.0.holds ≡ 1) × (result.0.me.0.parts ≡ turn.me.0.parts) × (result.0.me.0.history ≡ turn.me.0.history) × (result.0.me.0.fixed ≡ turn.me.0.fixed) }
-        ensures at { (result.1.home.table_id ≡ id_of turn.me.0.history) × (turn.me.0.fixed ≡ Some (S.fixed result.1.state)) }
-    {
-        let ticket = self.turns.shared.fetch_add::<Draws>(&mut turn, 0, 1);
-        for _ in rt.forever() {
-            let serving = self.turns.shared.load::<Takes<S>>(&mut turn, 1);
-            if serving == ticket {
-                return self.open(turn);
-            }
-        }
-        unreachable!()
-    }
-
-    /// The pass has then seen what the state tells, which begins with all that it had seen, and its own items are those of its number.
+    /// Waits for a turn, and takes the value out. Its list begins with all that the pass had seen, and the pass's own items are
+    /// those of its number. The turn has then seen the whole list.
     pub fn enter<R: Wait>(&self, rt: &R, pass: Pass<S>) -> (S, Inside<S>)
         requires { IsOf self.now pass }
-        ensures at { IsOf self.now result.1 }
-        ensures seen { (result.1.seen ≡ S.items result.0) × IsPrefix pass.seen (S.items result.0) }
-        ensures mine { (result.1.mine ≡ pass.mine) × (pass.mine ≡ of S.by pass.number (S.items result.0)) }
-        ensures number { (result.1.number ≡ pass.number) × (0 < pass.number) }
-        ensures fixed { (pass.fixed ≡ Some (S.fixed result.0)) × (result.1.fixed ≡ pass.fixed) }
+        ensures known { IsIn S.by (S.items result.0) pass }
+        ensures fixed { pass.fixed ≡ Some (S.fixed result.0) }
+        ensures seen { result.1.seen ≡ S.items result.0 }
+        ensures mine { result.1.mine ≡ pass.mine }
+        ensures pass { IsOf self.now result.1 × (result.1.number ≡ pass.number) × (result.1.fixed ≡ pass.fixed) }
+        ensures number { 0 < pass.number }
     {
         let Pass { mut past, turn } = pass;
-        let (turn, at) = self.take_turn(rt, turn);
-        let At { of: _, state, home } = at;
+        let (turn, deposit) = self.take_turn(rt, turn);
+        let Deposit { of: _, state, home } = deposit;
         self.history.shared.join_seat::<HomeIn>(&mut past, home);
         self.history.shared.load::<Looks<S>>(&mut past, 0);
         let taken = state.length();
         (state, Inside { past, turn, taken })
     }
 
-    /// Ends the turn. What the state tells more is the pass's own.
+    /// Puts the value back, and ends the turn. The value tells what it told when it was taken out, and then items of this pass.
+    /// The pass has then seen all of them.
     pub fn leave(&self, inside: Inside<S>, state: S) -> Pass<S>
-        requires table { IsOf self.now inside }
-        requires told { IsPrefix inside.seen (S.items state) × Each (λ y. S.by y ≡ inside.number) (drop (length inside.seen) (S.items state)) }
+        requires turn { IsOf self.now inside }
+        requires kept { IsPrefix inside.seen (S.items state) }
+        requires own { All (λ item. S.by item ≡ inside.number) (added inside.seen (S.items state)) }
         requires fixed { inside.fixed ≡ Some (S.fixed state) }
-        ensures at { IsOf self.now result × (result.number ≡ inside.number) × (result.fixed ≡ inside.fixed) }
         ensures seen { result.seen ≡ S.items state }
-        ensures mine { result.mine ≡ inside.mine ++ drop (length inside.seen) (S.items state) }
+        ensures mine { result.mine ≡ inside.mine ++ added inside.seen (S.items state) }
+        ensures pass { IsOf self.now result × (result.number ≡ inside.number) × (result.fixed ≡ inside.fixed) }
     {
         self.leave_by::<Brand>(inside, state)
     }
 
+    /// Gives the value up, once all passes are back. It tells all that any pass has seen, and each pass's own items are those of
+    /// its number. No item has the number of a pass that was never made.
+    pub fn close(self, mut passes: Passes<S>) -> S
+        requires all { length passes.list ≡ self.passes }
+        requires passes { All (IsOf self) passes.list }
+        ensures known { All (IsIn S.by (S.items result)) passes.list }
+        ensures made { All (λ item. IsMade self.passes (S.by item)) (S.items result) }
+        ensures fixed { S.fixed result ≡ self.fixed }
+    {
+        let Some(first) = passes.list.pop() else {
+            unreachable!()
+        };
+        let (mut past, turn) = self.gather(first, passes.list);
+        let Turnstile { history, turns } = self;
+        let Deposit { of: _, state, home } = reopened(turns, turn);
+        history.shared.join_seat::<HomeIn>(&mut past, home);
+        history.shared.load::<Looks<S>>(&mut past, 0);
+        state
+    }
+
+    // Draws a ticket, and waits until it is served.
+    fn take_turn<R: Wait>(
+        &self,
+        rt: &R,
+        mut turn: Seat<Option<Deposit<S>>, Turn<S::Fixed>>,
+    ) -> (Seat<Option<Deposit<S>>, Turn<S::Fixed>>, Deposit<S>)
+        requires table { turn.table_id ≡ self.now.turns }
+        requires rests { (turn.me.1 ≡ []) × (turn.me.0.tickets ≡ []) × (turn.me.0.holds ≡ 0) × (0 < turn.me.0.parts) }
+        ensures seat { (result.0.table_id ≡ turn.table_id) × (result.0.me.1 ≡ (0, None) ∷ []) × (result.0.me.0.holds ≡ 1) × (result.0.me.0.parts ≡ turn.me.0.parts) × (result.0.me.0.history ≡ turn.me.0.history) × (result.0.me.0.fixed ≡ turn.me.0.fixed) }
+        ensures deposit { (result.1.home.table_id ≡ id_of turn.me.0.history) × (result.1.home.me.0.made ≡ turn.me.0.history.passes) × (turn.me.0.fixed ≡ Some (S.fixed result.1.state)) }
+    {
+        let ticket = self.turns.shared.fetch_add::<Draws>(&mut turn, 0, 1);
+        for _ in rt.forever() {
+            let serving = self.turns.shared.load::<Takes<S>>(&mut turn, 1);
+            if serving == ticket {
+                return self.take_out(turn);
+            }
+        }
+        unreachable!()
+    }
+
+    // Empties the slot, which the seat holds.
+    fn take_out(
+        &self,
+        mut turn: Seat<Option<Deposit<S>>, Turn<S::Fixed>>,
+    ) -> (Seat<Option<Deposit<S>>, Turn<S::Fixed>>, Deposit<S>)
+        requires table { turn.table_id ≡ self.now.turns }
+        requires took { (a : _) × (turn.me.1 ≡ (0, Some a) ∷ []) × (a.home.table_id ≡ id_of turn.me.0.history) × (a.home.me.0.made ≡ turn.me.0.history.passes) × (turn.me.0.fixed ≡ Some (S.fixed a.state)) }
+        ensures seat { (result.0.table_id ≡ turn.table_id) × (result.0.me ≡ (turn.me.0, (0, None) ∷ [])) }
+        ensures deposit { (result.1.home.table_id ≡ id_of turn.me.0.history) × (result.1.home.me.0.made ≡ turn.me.0.history.passes) × (turn.me.0.fixed ≡ Some (S.fixed result.1.state)) }
+    {
+        let deposit = self.turns.shared.exchange(&mut turn, 0, None).unwrap();
+        (turn, deposit)
+    }
+
+    // `leave`, with the new items by name.
     fn leave_by<J: News<S::Item>>(&self, inside: Inside<S>, state: S) -> Pass<S>
-        requires table { IsOf self.now inside }
+        requires turn { IsOf self.now inside }
         requires told { (S.items state ≡ inside.seen ++ J.news) × Each (λ y. S.by y ≡ inside.number) J.news }
         requires fixed { inside.fixed ≡ Some (S.fixed state) }
-        ensures at { (result.history ≡ inside.history) × (result.turns ≡ inside.turns) × (result.number ≡ inside.number) × (result.fixed ≡ inside.fixed) }
         ensures seen { result.seen ≡ S.items state }
         ensures mine { result.mine ≡ inside.mine ++ J.news }
+        ensures pass { (result.history ≡ inside.history) × (result.turns ≡ inside.turns) × (result.number ≡ inside.number) × (result.fixed ≡ inside.fixed) }
     {
         let Inside {
             mut past,
             mut turn,
             taken,
         } = inside;
-        let more = state.length() - taken;
+        let more = u64::from(state.length() - taken);
         self.history
             .shared
-            .fetch_add::<Publishes<J>>(&mut past, 0, u64::from(more));
+            .fetch_add::<Publishes<J>>(&mut past, 0, more);
         let home = self.history.shared.split_seat::<HomeOut>(&mut past);
-        let at = At {
+        let deposit = Deposit {
             of: Of::new(),
             state,
             home,
         };
-        let old = self.turns.shared.exchange(&mut turn, 0, Some(at));
+        let old = self.turns.shared.exchange(&mut turn, 0, Some(deposit));
         let None = old else { unreachable!() };
         self.turns.shared.fetch_add::<Advances>(&mut turn, 1, 1);
         Pass { past, turn }
@@ -175,11 +195,14 @@ impl<S: Told> Turnstile<S> {
         &self,
         first: Pass<S>,
         mut passes: Vec<Pass<S>>,
-    ) -> (Seat<(), Past<S::Item>>, Seat<Option<At<S>>, Turn<S::Fixed>>)
+    ) -> (
+        Seat<(), Past<S::Item>>,
+        Seat<Option<Deposit<S>>, Turn<S::Fixed>>,
+    )
         requires { IsOf self.now first × Each (IsOf self.now) passes.items }
         ensures knows { Knows result.0.me.0 first × Each (Knows result.0.me.0) passes.items }
         ensures past { (result.0.table_id ≡ self.now.history) × (result.0.me.1 ≡ []) × (result.0.me.0.home ≡ 0) × (0 < result.0.me.0.number) }
-        ensures turn { (result.1.table_id ≡ self.now.turns) × (result.1.me.1 ≡ []) × (result.1.me.0.tickets ≡ []) × (result.1.me.0.holds ≡ 0) × (result.1.me.0.parts ≡ vec_len passes + 1) × (id_of result.1.me.0.history ≡ self.now.history) × (result.1.me.0.fixed ≡ first.fixed) }
+        ensures turn { (result.1.table_id ≡ self.now.turns) × (result.1.me.1 ≡ []) × (result.1.me.0.tickets ≡ []) × (result.1.me.0.holds ≡ 0) × (result.1.me.0.parts ≡ vec_len passes + 1) }
     {
         let Pass { mut past, mut turn } = first;
         while let Some(pass) = passes.pop() {
@@ -192,36 +215,21 @@ impl<S: Told> Turnstile<S> {
         }
         (past, turn)
     }
-
-    /// All passes are there. The state tells all that was seen, and each pass's items are its own.
-    pub fn close(self, mut passes: Vec<Pass<S>>) -> S
-        requires { (vec_len passes ≡ self.passes) × (0 < vec_len passes) × Each (IsOf self) passes.items }
-        ensures { Each (λ p. IsPrefix p.seen (S.items result) × (p.mine ≡ of S.by p.number (S.items result))) passes.items }
-    {
-        let Some(first) = passes.pop() else {
-            unreachable!()
-        };
-        let (mut past, turn) = self.gather(first, passes);
-        let Turnstile { history, turns } = self;
-        let At { of: _, state, home } = reopened(turns, turn);
-        history.shared.join_seat::<HomeIn>(&mut past, home);
-        history.shared.load::<Looks<S>>(&mut past, 0);
-        state
-    }
 }
 
 // What lies in the slot, where one seat stands for all passes.
 fn reopened<S: Told>(
-    turns: Table<Option<At<S>>, Turn<S::Fixed>, Key<S>, Turning<S>, Global>,
-    turn: Seat<Option<At<S>>, Turn<S::Fixed>>,
-) -> At<S>
+    turns: Table<Option<Deposit<S>>, Turn<S::Fixed>, Key<S>, TurnRule<S>, Global>,
+    turn: Seat<Option<Deposit<S>>, Turn<S::Fixed>>,
+) -> Deposit<S>
     requires table { (turn.table_id ≡ turns.shared.table_id) × (turns.shared.table_id.slots ≡ 1) }
     requires all { (turn.me.0.parts ≡ turns.shared.key.passes) × (turn.me.0.holds ≡ 0) }
-    ensures { (result.home.table_id ≡ turns.shared.key.past.table_id) × (S.fixed result.state ≡ S.fixed turns.shared.key.state.value) }
+    ensures home { (result.home.table_id ≡ turns.shared.key.home.value.table_id) × (result.home.me.0.made ≡ turns.shared.key.passes) }
+    ensures fixed { S.fixed result.state ≡ S.fixed turns.shared.key.state.value }
 {
     let mut closed = turns.close_with(turn);
     let slot = closed.take(0);
     closed.free();
-    let Some(at) = slot else { unreachable!() };
-    at
+    let Some(deposit) = slot else { unreachable!() };
+    deposit
 }

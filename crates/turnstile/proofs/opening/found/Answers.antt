@@ -1,9 +1,8 @@
 use Rattle.std.proofs.Common.{arith, ap, ◌∙◌, sym, subst}
-use Rattle.turnstile.specs.Totals.{Each}
-use Rattle.turnstile.specs.Past.{founds}
-use Rattle.turnstile.specs.Opening.{IsNewSeat}
-use Rattle.turnstile.proofs.Totals.{each_snoc}
-use Rattle.turnstile.proofs.Pasts.{opens, makes}
+use Rattle.turnstile.specs.History.{founds}
+use Rattle.turnstile.specs.Opening.{AreNewSeats}
+use Rattle.turnstile.proofs.Totals.{at_each_snoc}
+use Rattle.turnstile.proofs.HistoryRule.{opens, makes}
 use Rattle.turnstile.proofs.opening.found.Goals as goal
 
 pub of_words-requires : goal.of_words-requires
@@ -21,7 +20,7 @@ loop-made-preserved g c =
       e.2 ∙ ap (λ m. (founds m.0, m.1)) i.1,
       p.len ∙ omega (arith, i.2),
       omega (arith, p.capacity, i.3),
-      subst (Each (IsNewSeat c.in-Ok.history.shared.table_id)) (sym p.items) (each_snoc (IsNewSeat c.in-Ok.history.shared.table_id) c.loop-made.pasts.items c.split_seat-past.result
-          (e.3 ∙ i.0, ap (λ m. m.1) e.4, ap (λ m. m.0.home) e.4, (let n = ap (λ m. m.0.number) e.4 in omega arith), ap (λ m. m.0.seen) e.4, ap (λ m. m.0.mine) e.4) i.4),
+      subst (λ l. AreNewSeats c.in-Ok.history.shared.table_id l) (sym p.items) (at_each_snoc _ c.loop-made.pasts.items c.loop-made._made c.split_seat-past.result (sym c.loop-made.pasts.ok.0 ∙ i.2)
+          (e.3 ∙ i.0, ap (λ m. m.1) e.4, ap (λ m. m.0.home) e.4, (let n = ap (λ m. m.0.number) e.4 in let had = ap (λ m. m.0.made) i.1 in omega arith), ap (λ m. m.0.seen) e.4, ap (λ m. m.0.mine) e.4) i.4),
       i.5,
     )

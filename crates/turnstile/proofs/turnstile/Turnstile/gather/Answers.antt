@@ -3,11 +3,10 @@ use Rattle.turnstile.specs.Totals.{Each}
 use Rattle.turnstile.specs.Knows.{Knows}
 use Rattle.std.proofs.lemmas.List.{append-nil}
 use mathlib.Core.Option.{some-ne-none}
-use Rattle.turnstile.specs.Names.{id_of}
 use Rattle.turnstile.specs.Passes.{IsOf}
 use Rattle.turnstile.proofs.Gathering.{each_more, knows_more, of_popped, moved}
-use Rattle.turnstile.proofs.Turns.{together}
-use Rattle.turnstile.proofs.Pasts.{joins}
+use Rattle.turnstile.proofs.TurnRule.{together}
+use Rattle.turnstile.proofs.HistoryRule.{joins}
 use Rattle.turnstile.proofs.turnstile.Turnstile.gather.Goals as goal
 
 pub loop-pass-init : goal.loop-pass-init
@@ -18,7 +17,7 @@ loop-pass-init g c =
       sym (append-nil c.args.passes.items),
       ((λ k x e. absurd (some-ne-none x (sym e))), inl (sym (ap (λ p. p.number) view), sym (ap (λ p. p.seen) view), sym (ap (λ p. p.mine) view))),
       (ap (λ p. p.history) view ∙ c.requires.0.0, own.0.0, own.0.1, own.0.2),
-      (ap (λ p. p.turns) view ∙ c.requires.0.1, own.1.0, own.1.1, own.1.2, omega (arith, own.1.3), own.2 ∙ (ap (λ p. p.history) view ∙ c.requires.0.0), ap (λ p. p.fixed) view),
+      (ap (λ p. p.turns) view ∙ c.requires.0.1, own.1.0, own.1.1, own.1.2, omega (arith, own.1.3)),
     )
 
 pub join_seat-requires : goal.join_seat-requires
@@ -67,7 +66,5 @@ loop-pass-preserved g c =
         ap (λ m. m.0.tickets) e'.2 ∙ i.4.2,
         ap (λ m. m.0.holds) e'.2 ∙ i.4.3,
         (let n = ap (λ m. m.0.parts) e'.2 in omega (arith, i.4.4, own.1.3)),
-        ap (λ m. id_of m.0.history) e'.2 ∙ i.4.5,
-        ap (λ m. m.0.fixed) e'.2 ∙ i.4.6,
       ),
     )

@@ -1,6 +1,5 @@
 use Rattle.std.proofs.Common.{◌≡◌, ◌+◌, ◌<◌, ◌++◌, [], List, length}
 use Rattle.turnstile.specs.Totals.{Each}
-use Rattle.turnstile.specs.Names.{id_of}
 use Rattle.turnstile.specs.Passes.{PassView}
 use Rattle.turnstile.specs.Knows.{Knows}
 use Rattle.turnstile.proofs.turnstile.Turnstile.gather.Given as goal
@@ -11,7 +10,7 @@ invariant-loop-pass g l =
     × (l.fn.passes.items ≡ l.passes.items ++ rest)
     × (Each (Knows l.past.me.0) rest × Knows l.past.me.0 l.fn.first)
     × ((l.past.table_id ≡ l.fn.self.history) × (l.past.me.1 ≡ []) × (l.past.me.0.home ≡ 0) × (0 < l.past.me.0.number))
-    × ((l.turn.table_id ≡ l.fn.self.turns) × (l.turn.me.1 ≡ []) × (l.turn.me.0.tickets ≡ []) × (l.turn.me.0.holds ≡ 0) × (l.turn.me.0.parts ≡ length rest + 1) × (id_of l.turn.me.0.history ≡ l.fn.self.history) × (l.turn.me.0.fixed ≡ l.fn.first.fixed))
+    × ((l.turn.table_id ≡ l.fn.self.turns) × (l.turn.me.1 ≡ []) × (l.turn.me.0.tickets ≡ []) × (l.turn.me.0.holds ≡ 0) × (l.turn.me.0.parts ≡ length rest + 1))
 
 abbrev pub decreases-loop-pass : goal.decreases-loop-pass
 decreases-loop-pass g l = length l.passes.items

@@ -1,6 +1,6 @@
 use Rattle.std.proofs.Common.{rules, ap, ◌∙◌, sym, subst, ◌≡◌, ◌<◌, ◌∷◌, ◌%◌, ℕ, List, get_or, Some}
 use Rattle.turnstile.specs.Names.{id_of}
-use Rattle.turnstile.proofs.Turns.{draws_keep, takes_keep}
+use Rattle.turnstile.proofs.TurnRule.{draws_keep, takes_keep}
 use Rattle.turnstile.proofs.turnstile.Turnstile.take_turn.Goals as goal
 
 pub fetch_add-ticket-requires : goal.fetch_add-ticket-requires
@@ -13,8 +13,8 @@ load-serving-requires g c = let i = c.loop.invariant in (
   takes_keep _ _ _ _ _ _ c.loop.turn.me i.0 (subst (λ m. 0 < m.0.parts) (sym i.1) c.requires.rests.3) (ap (λ m. m.0.tickets) i.1) (ap (λ m. m.0.holds) i.1 ∙ c.requires.rests.2),
 )
 
-pub open-requires-clause-took : goal.open-requires-clause-took
-open-requires-clause-took g c =
+pub take_out-requires-clause-took : goal.take_out-requires-clause-took
+take_out-requires-clause-took g c =
     let i = c.loop.invariant in
     let e = c.load-serving.ensures.2 in
     let same : e.0 ≡ i.0 = ap (λ (l : List ℕ). get_or l 0 0) (sym e.1 ∙ ap (λ m. m.0.tickets) i.1) in
@@ -23,5 +23,6 @@ open-requires-clause-took g c =
       t.0,
       ap (λ m. m.1) t.1 ∙ ap (λ l. (0, Some t.0) ∷ l) (ap (λ m. m.1) i.1),
       t.2.0 ∙ sym (ap (λ m. id_of m.0.history) t.1),
-      ap (λ m. m.0.fixed) t.1 ∙ t.2.1,
+      t.2.1 ∙ sym (ap (λ m. m.0.history.passes) t.1),
+      ap (λ m. m.0.fixed) t.1 ∙ t.2.2,
     )

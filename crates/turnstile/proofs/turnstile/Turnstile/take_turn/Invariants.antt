@@ -1,5 +1,5 @@
 use Rattle.std.proofs.Common.{◌≡◌, ℕ, ◌%◌, []}
-use Rattle.turnstile.specs.Turn.{waiting}
+use Rattle.turnstile.specs.Turns.{waiting}
 use Rattle.turnstile.proofs.turnstile.Turnstile.take_turn.Given as goal
 
 abbrev pub invariant-loop : goal.invariant-loop

@@ -3,12 +3,12 @@ use Rattle.std.specs.Prelude.{◌≡◌, ℕ, ◌+◌, ◌-◌, ◌%◌, ◌<◌
 use mathlib.Core.Option.{some}
 use lib.ListN.{get_elem?}
 use Rattle.atomic_table.specs.Table.{State, Me, Step, rest}
-use Rattle.turnstile.specs.declared.name.Name.{Name}
+use Rattle.turnstile.specs.declared.history.HistoryName.{HistoryName}
 use Rattle.turnstile.specs.Totals.{total, is, between}
-use Rattle.turnstile.specs.declared.turn.Turn.{Turn}
+use Rattle.turnstile.specs.declared.turns.Turn.{Turn}
 
 module _ {F : Type 0} where
-  abbrev pub turn : ℕ → List ℕ → ℕ → Option F → Name → Turn F
+  abbrev pub turn : ℕ → List ℕ → ℕ → Option F → HistoryName → Turn F
   turn parts tickets holds fixed history = record { parts = parts; tickets = tickets; holds = holds; fixed = fixed; history = history }
 
   abbrev pub waiting : Turn F → ℕ → Turn F
@@ -31,7 +31,7 @@ module _ {F : Type 0} where
   both v w = turn (v.parts + w.parts) v.tickets v.holds v.fixed v.history
 
   abbrev pub gone : Turn F
-  gone = turn 0 [] 0 None record { words = 0; slots = 0; views_name = 0; atom = 0; block = 0; offset = 0; slot_names = [] }
+  gone = turn 0 [] 0 None record { passes = 0; words = 0; slots = 0; views_name = 0; atom = 0; block = 0; offset = 0; slot_names = [] }
 
   module _ {A : Type 0} where
     abbrev pub draws : Step (Option A) → Me (Option A) (Turn F) → ℕ → Me (Option A) (Turn F) → Type 0
@@ -41,8 +41,8 @@ module _ {F : Type 0} where
     advances st m r n = n ≡ (resting m.0, rest m.1)
 
     -- fits z f a: the state a is of the history z, with the fixed part f
-    module _ (fits : Name → Option F → A → Type 0) where
-      pub record Ordered (passes : ℕ) (z : Name) (f : Option F) (s : State (Option A) (Turn F)) : Type 0 where
+    module _ (fits : HistoryName → Option F → A → Type 0) where
+      pub record Ordered (passes : ℕ) (z : HistoryName) (f : Option F) (s : State (Option A) (Turn F)) : Type 0 where
         pub serving : ℕ
         pub next : ℕ
         pub wide : length s.words ≡ 2
@@ -65,6 +65,3 @@ module _ {F : Type 0} where
       -- the turn is taken exactly where the number found is the ticket modulo 2^64
       abbrev pub takes : Step (Option A) → Me (Option A) (Turn F) → ℕ → Me (Option A) (Turn F) → Type 0
       takes st m r n = (t : ℕ) × (m.0.tickets ≡ t ∷ []) × (r ≡ t % 18446744073709551616 → Took m n) × (r ≢ t % 18446744073709551616 → n ≡ m)
-
-      abbrev pub surely : Step (Option A) → Me (Option A) (Turn F) → ℕ → Me (Option A) (Turn F) → Type 0
-      surely st m r n = Took m n

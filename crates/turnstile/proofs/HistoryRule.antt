@@ -1,22 +1,26 @@
 -- Each step keeps the rule of the history.
-use Rattle.std.proofs.Common.{◌≡◌, ℕ, zero, suc, ◌+◌, ◌%◌, ◌^◌, ◌<◌, ◌≤◌, ◌≢◌, List, [], ◌∷◌, ◌++◌, length, get_or, set, sym, refl, ap, ◌∙◌, subst, ⊎_elim, arith, cond, eq-eqb, ne_eqb, length-set, get_or-set_same, append_assoc}
+use Rattle.std.proofs.Common.{◌≡◌, ℕ, zero, suc, ◌+◌, ◌%◌, ◌^◌, ◌<◌, ◌≤◌, ◌==◌, ◌≢◌, List, [], ◌∷◌, ◌++◌, length, drop, get_or, set, sym, refl, ap, ◌∙◌, subst, ⊎_elim, arith, cond, eq-eqb, ne_eqb, length-set, get_or-set_same, append_assoc}
 use Rattle.std.proofs.lemmas.List.{length-append, append-nil}
-use mathlib.Core.Logic.{dite}
 use mathlib.Core.Option.{none, some, some-injective, some-ne-none}
 use mathlib.Core.List.{IsPrefix}
-use native.Mathlib.Decide.{ℕ_discrete}
 use lib.ListN.{get_elem?}
 use lib.Seq.{set-get_or}
 use Rattle.atomic_table.specs.Table.{State, Me, step, keeps, Allows, Splits, Joins, opening}
 use Rattle.atomic_table.proofs.Lists.{at_set, at_snoc, set_else, set_again}
 use Rattle.turnstile.specs.Totals.{total, is, once_within, Each}
-use Rattle.turnstile.specs.Past.{past, keeping, of, numbers, IsOwn, Fits, Recorded, founder, spent, founds, founded, without_home, with_home_only, brings, joined, looks, publishes}
-use Rattle.turnstile.specs.declared.past.Past.{Past}
-use Rattle.turnstile.specs.declared.past.Kept.{Kept}
+use Rattle.turnstile.specs.Passes.{items_of, added, IsMade}
+use Rattle.std.proofs.Math.Seq.{drop-append_seam}
+use Rattle.std.proofs.lemmas.List.Elements.{filter-append}
+use Rattle.turnstile.specs.History.{past, keeping, numbers, IsOwn, Fits, Recorded, founder, spent, founds, founded, without_home, with_home_only, brings, joined, looks, publishes}
+use Rattle.turnstile.specs.declared.history.Past.{Past}
+use Rattle.turnstile.specs.declared.history.Kept.{Kept}
 use Rattle.turnstile.proofs.Totals.{total-append, total-set, term_le, terms_le, total_alone, each_set, each_snoc, is_here, is_else}
 
 once_le : (n k : ℕ) → once_within n k ≤ 1
 once_le n k = grind arith
+
+once_in : (n k : ℕ) → 0 < once_within n k → n ≤ k
+once_in n k h = grind arith
 
 once_none : (n : ℕ) → once_within n 0 ≡ 0
 once_none n = grind arith
@@ -42,20 +46,18 @@ module _ {I : Type 0} where
   prefix_more : (xs ys zs : List I) → IsPrefix xs ys → IsPrefix xs (ys ++ zs)
   prefix_more xs ys zs p = (p.0 ++ zs, sym (append_assoc xs p.0 zs) ∙ ap (λ w. w ++ zs) p.1)
 
+  -- what begins with a list is that list with what was added
+  pub prefix_added : (xs ys : List I) → IsPrefix xs ys → ys ≡ xs ++ added xs ys
+  prefix_added xs ys p = sym p.1 ∙ ap (λ l. xs ++ l) (sym (ap (λ l. drop (length xs) l) (sym p.1) ∙ drop-append_seam xs p.0))
+
   module _ (by : I → ℕ) where
-    pub of-append : (n : ℕ) (xs ys : List I) → of by n (xs ++ ys) ≡ of by n xs ++ of by n ys
-    of-append n [] ys = refl
-    of-append n (x ∷ xs) ys = dite (ℕ_discrete (by x) n)
-        (λ e. let b = eq-eqb (by x) n e in ap (λ c. cond c (x ∷ of by n (xs ++ ys)) (of by n (xs ++ ys))) b ∙ (ap (λ w. x ∷ w) (of-append n xs ys) ∙ sym (ap (λ c. cond c (x ∷ of by n xs) (of by n xs) ++ of by n ys) b)))
-        (λ ne. let b = ne_eqb (by x) n ne in ap (λ c. cond c (x ∷ of by n (xs ++ ys)) (of by n (xs ++ ys))) b ∙ (of-append n xs ys ∙ sym (ap (λ c. cond c (x ∷ of by n xs) (of by n xs) ++ of by n ys) b)))
-
-    pub of-all : (n : ℕ) (ys : List I) → Each (λ y. by y ≡ n) ys → of by n ys ≡ ys
+    pub of-all : (n : ℕ) (ys : List I) → Each (λ y. by y ≡ n) ys → items_of by n ys ≡ ys
     of-all n [] h = refl
-    of-all n (y ∷ ys) h = ap (λ c. cond c (y ∷ of by n ys) (of by n ys)) (eq-eqb (by y) n (h 0 y refl)) ∙ ap (λ w. y ∷ w) (of-all n ys (λ k. h (suc k)))
+    of-all n (y ∷ ys) h = ap (λ c. cond c (y ∷ items_of by n ys) (items_of by n ys)) (eq-eqb (by y) n (h 0 y refl)) ∙ ap (λ w. y ∷ w) (of-all n ys (λ k. h (suc k)))
 
-    pub of-none : (n m : ℕ) (ys : List I) → m ≢ n → Each (λ y. by y ≡ n) ys → of by m ys ≡ []
+    pub of-none : (n m : ℕ) (ys : List I) → m ≢ n → Each (λ y. by y ≡ n) ys → items_of by m ys ≡ []
     of-none n m [] ne h = refl
-    of-none n m (y ∷ ys) ne h = ap (λ c. cond c (y ∷ of by m ys) (of by m ys)) (ne_eqb (by y) m (λ e. ne (sym e ∙ h 0 y refl))) ∙ of-none n m ys ne (λ k. h (suc k))
+    of-none n m (y ∷ ys) ne h = ap (λ c. cond c (y ∷ items_of by m ys) (items_of by m ys)) (ne_eqb (by y) m (λ e. ne (sym e ∙ h 0 y refl))) ∙ of-none n m ys ne (λ k. h (suc k))
 
     absent : (n : ℕ) (u : Past I) → numbers n u ≡ 0 → (u.number ≢ n) × Each (λ (k : Kept I). k.number ≢ n) u.kept
     absent n u none-there = (
@@ -68,8 +70,8 @@ module _ {I : Type 0} where
     grown log ys n u f new own others away = record {
       seen = prefix_more u.seen log ys f.seen;
       olds = λ j o at. prefix_more o log ys (f.olds j o at);
-      mine = λ some-number. f.mine some-number ∙ sym (of-append u.number log ys ∙ (ap (λ w. of by u.number log ++ w) (of-none n u.number ys own new) ∙ append-nil (of by u.number log)));
-      kept = λ j k at. ((f.kept j k at).0, (f.kept j k at).1 ∙ sym (of-append k.number log ys ∙ (ap (λ w. of by k.number log ++ w) (of-none n k.number ys (others j k at) new) ∙ append-nil (of by k.number log))));
+      mine = λ some-number. f.mine some-number ∙ sym (filter-append (λ item. by item == u.number) log ys ∙ (ap (λ w. items_of by u.number log ++ w) (of-none n u.number ys own new) ∙ append-nil (items_of by u.number log)));
+      kept = λ j k at. ((f.kept j k at).0, (f.kept j k at).1 ∙ sym (filter-append (λ item. by item == k.number) log ys ∙ (ap (λ w. items_of by k.number log ++ w) (of-none n k.number ys (others j k at) new) ∙ append-nil (items_of by k.number log))));
       whole = λ has. absurd (omega arith);
       maker = f.maker;
     }
@@ -101,7 +103,10 @@ module _ {I : Type 0} where
           let one : total (numbers n) s.views ≤ 1 = omega (arith, r.once n numbered, once_le n (total (λ u. u.made) s.views)) in
           let mine-is : is n n ≡ 1 = is_here n in
           let kept-else : Each (λ (y : Kept I). y.number ≢ n) v.kept = λ j y there e. absurd (omega (arith, one, term_le (numbers n) s.views id v at, term_le (λ (q : Kept I). is n q.number) v.kept j y there, ap (is n) e, mine-is)) in
-          let views : List (Past I) = set s.views id w in (
+          let views : List (Past I) = set s.views id w in
+          let same-made : total (λ u. u.made) views ≡ total (λ u. u.made) s.views = omega (arith, total-set (λ u. u.made) s.views id v w at) in
+          let made_more : (m : ℕ) → IsMade (total (λ u. u.made) s.views) m → IsMade (total (λ u. u.made) views) m = λ m h. (h.0, omega (arith, h.1, same-made)) in
+          let own-made : Each (λ y. IsMade (total (λ u. u.made) s.views) (by y)) ys = λ i y there. let e = new i y there in let within = once_in n (total (λ u. u.made) s.views) (omega (arith, r.once n numbered, term_le (numbers n) s.views id v at, mine-is)) in (omega (arith, e), omega (arith, e, within)) in (
             w,
             keeps,
             tt,
@@ -110,13 +115,14 @@ module _ {I : Type 0} where
               wide = length-set s.words 0 next ∙ r.wide;
               long = get_or-set_same s.words 0 next 0 (omega (arith, r.wide)) ∙ omega (arith, length-append log ys);
               homes = omega (arith, r.homes, total-set (λ u. u.home) s.views id v w at);
+              numbered = each_append (λ item. IsMade (total (λ u. u.made) views) (by item)) log ys (λ i y there. made_more (by y) (r.numbered i y there)) (λ i y there. made_more (by y) (own-made i y there));
               once = λ m some-number. let made : total (λ u. u.made) views ≡ total (λ u. u.made) s.views = omega (arith, total-set (λ u. u.made) s.views id v w at) in omega (arith, r.once m some-number, total-set (numbers m) s.views id v w at, ap (once_within m) made);
               fits = λ j u e. ⊎_elim
                   (λ t. subst (Fits by (log ++ ys)) t.1 (record {
                     seen = subst (λ l. IsPrefix (l ++ ys) (log ++ ys)) (sym is-whole) (prefix_self (log ++ ys));
                     olds = λ i o there. prefix_more o log ys (f.olds i o there);
-                    mine = λ _. ap (λ l. l ++ ys) (f.mine numbered) ∙ sym (of-append n log ys ∙ ap (λ l. of by n log ++ l) (of-all n ys new));
-                    kept = λ i y there. ((f.kept i y there).0, (f.kept i y there).1 ∙ sym (of-append y.number log ys ∙ (ap (λ l. of by y.number log ++ l) (of-none n y.number ys (kept-else i y there) new) ∙ append-nil (of by y.number log))));
+                    mine = λ _. ap (λ l. l ++ ys) (f.mine numbered) ∙ sym (filter-append (λ item. by item == n) log ys ∙ ap (λ l. items_of by n log ++ l) (of-all n ys new));
+                    kept = λ i y there. ((f.kept i y there).0, (f.kept i y there).1 ∙ sym (filter-append (λ item. by item == y.number) log ys ∙ (ap (λ l. items_of by y.number log ++ l) (of-none n y.number ys (kept-else i y there) new) ∙ append-nil (items_of by y.number log))));
                     whole = λ _. ap (λ l. l ++ ys) is-whole;
                     maker = f.maker;
                   }))
@@ -135,12 +141,15 @@ module _ {I : Type 0} where
           let v : Past I = me.0 in
           let f : Fits by r.log v = r.fits id v at in
           let back : r.log ≡ v.seen = sym (f.whole has) in
-          let g : Fits by v.seen v = subst (λ (l : List I). Fits by l v) back f in (
+          let g : Fits by v.seen v = subst (λ (l : List I). Fits by l v) back f in
+          let alone : total (λ u. u.home) s.views ≡ v.home = omega (arith, r.homes, term_le (λ (u : Past I). u.home) s.views id v at) in
+          let made : total (λ u. u.made) s.views ≡ v.made = total_alone (λ u. u.home) (λ u. u.made) s.views id v (λ j u e away. (r.fits j u e).maker away) at alone in
+          let numbered : Each (λ item. IsMade v.made (by item)) v.seen = subst (λ l. Each (λ item. IsMade v.made (by item)) l) back (subst (λ m. Each (λ item. IsMade m (by item)) r.log) made r.numbered) in (
             v,
             keeps,
             tt,
             subst (λ (t : List ℕ × List (Past I)). Recorded {X = X} by record { words = t.0; homes = s.homes; views = t.1 }) (λ j. (sym (set-get_or s.words 0 0) j, sym (set_again s.views id v at) j)) r,
-            (refl, g.olds, g.mine, g.kept),
+            (refl, g.olds, g.mine, g.kept, numbered),
           )
 
       -- the views changed, and nothing that the rule adds up
@@ -152,6 +161,7 @@ module _ {I : Type 0} where
         long = r.long;
         homes = homes ∙ r.homes;
         once = λ n h. same n h ∙ (r.once n h ∙ ap (once_within n) (sym made));
+        numbered = subst (λ m. Each (λ item. IsMade m (by item)) r.log) (sym made) r.numbered;
         fits = fits;
       }
 
@@ -240,11 +250,12 @@ module _ {I : Type 0} where
             wide = r.wide;
             long = r.long;
             homes = omega (arith, r.homes, total-append (λ (u : Past I). u.home) half (right ∷ []), total-set (λ u. u.home) s.views id v left at);
+            numbered = λ i y there. let h = r.numbered i y there in (h.0, omega (arith, h.1, made, more));
             once = λ n some-number. omega (arith, r.once n some-number, total-append (numbers n) half (right ∷ []), total-set (numbers n) s.views id v left at, once_more n v.made some-number, ap (once_within n) made, ap (once_within n) more);
             fits = each_snoc (Fits by r.log) half right (record {
               seen = (r.log, refl);
               olds = each_nil (λ o. IsPrefix o r.log);
-              mine = λ _. sym (ap (of by (v.made + 1)) no-log);
+              mine = λ _. sym (ap (items_of by (v.made + 1)) no-log);
               kept = each_nil (IsOwn by r.log);
               whole = λ h. absurd (omega arith);
               maker = λ _. refl;
@@ -265,6 +276,7 @@ module _ {I : Type 0} where
             wide = refl;
             long = refl;
             homes = refl;
+            numbered = each_nil (λ item. IsMade 0 (by item));
             once = λ n h. omega (arith, is_else n 0 (λ e. omega arith), once_none n);
             fits = λ j u e. ⊎_elim (λ (x : get_elem? [] j ≡ some u). absurd (some-ne-none u (sym x))) (λ (x : founder ≡ u). subst (Fits by []) x (record {
               seen = ([], refl);

@@ -6,15 +6,15 @@ use native.Mathlib.Decide.{ℕ_discrete}
 use lib.ListN.{get_elem?}
 use lib.Seq.{set-get_or}
 use Rattle.atomic_table.specs.Table.{State, Me, step, Act, keeps, takes, gives, stepped, rest, carried_after, Allows, Splits, Joins, opening}
-use Rattle.turnstile.specs.declared.name.Name.{Name}
+use Rattle.turnstile.specs.declared.history.HistoryName.{HistoryName}
 use Rattle.atomic_table.proofs.Lists.{at_set, set_here, set_else, set_again, one_turn}
 use Rattle.turnstile.specs.Totals.{total, is, between}
-use Rattle.turnstile.specs.Turn as turns
-use Rattle.turnstile.specs.Turn.{turn, waiting, holding, resting, fewer, single, both, gone, Ordered, Took, draws, advances}
-use Rattle.turnstile.specs.declared.turn.Turn.{Turn}
-use Rattle.turnstile.proofs.Totals.{total-append, total-set, term_le, terms_le, total_le, total_zero, total_alone, each_set, each_snoc, is_here, is_else, between_in, between_here, between_le, between_next, between_served, between_none, empty}
+use Rattle.turnstile.specs.Turns as turns
+use Rattle.turnstile.specs.Turns.{turn, waiting, holding, resting, fewer, single, both, gone, Ordered, Took, draws, advances}
+use Rattle.turnstile.specs.declared.turns.Turn.{Turn}
+use Rattle.turnstile.proofs.Totals.{total-append, total-set, term_le, terms_le, total_le, total_zero, total_alone, each_set, each_snoc, is_here, between_in, between_le, between_next, between_served, between_none}
 
-module _ {A F : Type 0} (fits : Name → Option F → A → Type 0) (P : ℕ) (z : Name) (f : Option F) where
+module _ {A F : Type 0} (fits : HistoryName → Option F → A → Type 0) (P : ℕ) (z : HistoryName) (f : Option F) where
   abbrev Holds : State (Option A) (Turn F) → Type 0
   Holds = Ordered fits P z f
 
@@ -93,7 +93,7 @@ module _ {A F : Type 0} (fits : Name → Option F → A → Type 0) (P : ℕ) (z
           one = omega (arith, total-set (λ u. u.holds) s.views id v w at);
           home = λ e. absurd (omega (arith, total-set (λ u. u.holds) s.views id v w at));
         },
-        (h.0, refl, subst (λ (y : Name). fits y v.fixed h.0) (sym like.0) (subst (λ (y : Option F). fits z y h.0) (sym like.1) h.2)),
+        (h.0, refl, subst (λ (y : HistoryName). fits y v.fixed h.0) (sym like.0) (subst (λ (y : Option F). fits z y h.0) (sym like.1) h.2)),
       )
 
   pub takes_keep : (slots id : ℕ) (me : Me (Option A) (Turn F)) (t : ℕ) → 0 < me.0.parts → me.0.tickets ≡ t ∷ [] → me.0.holds ≡ 0 → Allows Holds slots id me 1 (λ x. x) (turns.takes fits (step slots 1 0 0 none) me)
@@ -109,20 +109,6 @@ module _ {A F : Type 0} (fits : Name → Option F → A → Type 0) (P : ℕ) (z
       let g = served s k id me at some-part idle (mine ∙ ap (λ (n : ℕ). n ∷ []) (sym same)) in
       (g.0, g.1, g.2, g.3, (t, mine, (λ _. g.4), λ ne. absurd (ne hit))))
       (λ miss. (v, keeps, tt, unmoved s id 1 v me.1 at k, (t, mine, (λ e. absurd (miss e)), λ _. refl)))
-
-  -- who has all parts waits for nobody
-  pub surely_keep : (slots id : ℕ) (me : Me (Option A) (Turn F)) (t : ℕ) → 0 < me.0.parts → me.0.parts ≡ P → me.0.tickets ≡ t ∷ [] → me.0.holds ≡ 0 → Allows Holds slots id me 1 (λ x. x) (turns.surely fits (step slots 1 0 0 none) me)
-  surely_keep slots id me t some-part all mine idle s k wide at small =
-      let v : Turn F = me.0 in
-      let lone : (n : ℕ) → total (λ u. total (is n) u.tickets) s.views ≡ is n t = λ n. omega (
-        arith,
-        ap (total (is n)) mine,
-        total_alone (λ u. u.parts) (λ u. total (is n) u.tickets) s.views id v (λ j u e none-left. let b = k.bound j u e in empty (is n) u.tickets (omega arith)) at (k.parts ∙ sym all),
-      ) in
-      let one : total (λ u. length u.tickets) s.views ≡ 1 = total_alone (λ u. u.parts) (λ u. length u.tickets) s.views id v (λ j u e none-left. omega (arith, k.bound j u e)) at (k.parts ∙ sym all) ∙ ap length mine in
-      let first : between k.serving k.serving k.next ≡ 1 = between_here k.serving k.serving k.next (omega arith) (omega (arith, k.count)) in
-      let same : t ≡ k.serving = dite (ℕ_discrete t k.serving) (λ e. e) (λ ne. absurd (omega (arith, lone k.serving, is_else k.serving t ne, k.out k.serving))) in
-      let g = served s k id me at some-part idle (mine ∙ ap (λ (n : ℕ). n ∷ []) same) in g
 
   advances_keep : (slots id : ℕ) (v : Turn F) (a : A) (more : List (ℕ × Option A)) → slots ≡ 1 → 0 < v.parts → 0 < v.holds → fits v.history v.fixed a
       → Allows Holds slots id (v, (0, Some a) ∷ more) 1 (λ x. (x + 1) % 2 ^ 64) (advances (step slots 1 1 0 none) (v, (0, Some a) ∷ more))
@@ -153,7 +139,7 @@ module _ {A F : Type 0} (fits : Name → Option F → A → Type 0) (P : ℕ) (z
           same = each_set (λ u. 0 < u.parts → (u.history ≡ z) × (u.fixed ≡ f)) s.views id w (k.same id v at) k.same;
           turns = λ j u e h. ⊎_elim (λ t. absurd (omega (arith, ap (λ (y : Turn F). y.holds) t.1))) (λ t. absurd (omega (arith, k.one, terms_le (λ y. y.holds) s.views id j v u t.0 at t.1))) (at_set s.views id j w u e);
           one = omega (arith, k.one, total-set (λ u. u.holds) s.views id v w at);
-          home = λ _. (a, set_here s.homes 0 (some (Some a)) (omega arith), subst (λ (y : Name). fits y f a) like.0 (subst (λ (y : Option F). fits v.history y a) like.1 fit));
+          home = λ _. (a, set_here s.homes 0 (some (Some a)) (omega arith), subst (λ (y : HistoryName). fits y f a) like.0 (subst (λ (y : Option F). fits v.history y a) like.1 fit));
         },
         refl,
       )
@@ -188,7 +174,7 @@ module _ {A F : Type 0} (fits : Name → Option F → A → Type 0) (P : ℕ) (z
       }
 
   -- a pass is split off
-  pub splits : (id : ℕ) (v : Turn F) → 1 < v.parts → v.tickets ≡ [] → v.holds ≡ 0 → Splits Holds id v (fewer v) (single v)
+  pub splits : (id : ℕ) (v : Turn F) → 0 < v.parts → v.tickets ≡ [] → v.holds ≡ 0 → Splits Holds id v (fewer v) (single v)
   splits id v more no-ticket idle s k at =
       let half : List (Turn F) = set s.views id (fewer v) in
       let views : List (Turn F) = half ++ single v ∷ [] in
