@@ -31,7 +31,7 @@ module _ {F : Type 0} where
   both v w = turn (v.parts + w.parts) v.tickets v.holds v.fixed v.history
 
   abbrev pub gone : Turn F
-  gone = turn 0 [] 0 None record { passes = 0; words = 0; slots = 0; views_name = 0; atom = 0; block = 0; offset = 0; slot_names = [] }
+  gone = turn 0 [] 0 None record { table = record { words = 0; slots = 0; views_name = 0; atom = 0; block = 0; offset = 0; slot_names = [] }; passes = 0 }
 
   module _ {A : Type 0} where
     abbrev pub draws : Step (Option A) → Me (Option A) (Turn F) → ℕ → Me (Option A) (Turn F) → Type 0

@@ -8,9 +8,8 @@ use atomic_table::{Join, Play, Split, TableRule};
 use std::collections::LinkedList;
 use std::marker::{Brand, PhantomData};
 
-/// Which table the history's is, as plain data, and for how many passes it was made. No value of it is made.
-pub struct HistoryName {
-    pub passes: u64,
+/// Which table of atomic words it is, as plain data, so that a view or a fixed part can hold it. No value of it is made.
+pub struct TableName {
     pub words: u64,
     pub slots: u64,
     pub views_name: u64,
@@ -18,6 +17,12 @@ pub struct HistoryName {
     pub block: u64,
     pub offset: u64,
     pub slot_names: LinkedList<u64>,
+}
+
+/// The history's table, and for how many passes it was made. No value of it is made.
+pub struct HistoryName {
+    pub table: TableName,
+    pub passes: u64,
 }
 
 /// The items of a pass that was joined into another. No value of it is made.

@@ -1,7 +1,7 @@
 //! How a turnstile is made: the history's table with a seat for each pass, then the turns' table round the value, then the passes.
 ghost use Rattle.std.specs.Prelude.{◌≡◌, ℕ, ◌+◌, ◌<◌, ◌≤◌, ◌^◌, ◌∷◌, [], length, vec_len, vec_capacity, Some, IfSome, IfOk, IfErr};
 ghost use Rattle.turnstile.specs.History.{past};
-ghost use Rattle.turnstile.specs.Names.{name_of};
+ghost use Rattle.turnstile.specs.Names.{history_of};
 ghost use Rattle.turnstile.specs.Turns.{turn};
 ghost use Rattle.turnstile.specs.Opening.{AreNewSeats, AreDealt};
 
@@ -63,7 +63,7 @@ pub(crate) fn enclose<S: Told>(
     requires key { (key.now.state.value ≡ state) × (key.now.home.value.table_id ≡ home.table_id) }
     requires home { (S.items state ≡ []) × (home.me ≡ (past 0 1 key.now.passes [] [] [] [], [])) }
     ensures ok { IfOk result (λ r. (r.0.shared.table_id.words ≡ 2) × (r.0.shared.table_id.slots ≡ 1) × (r.0.shared.key ≡ key.now)) }
-    ensures seat { IfOk result (λ r. (r.1.table_id ≡ r.0.shared.table_id) × (r.1.me ≡ (turn key.now.passes [] 0 (Some (S.fixed state)) (name_of key.now.passes home.table_id), []))) }
+    ensures seat { IfOk result (λ r. (r.1.table_id ≡ r.0.shared.table_id) × (r.1.me ≡ (turn key.now.passes [] 0 (Some (S.fixed state)) (history_of key.now.passes home.table_id), []))) }
     ensures err { IfErr result (λ e. e.state ≡ state) }
 {
     let Ok(mut slots) = Vec::with_capacity(alloc, 1) else {
@@ -100,7 +100,7 @@ pub(crate) fn deal<S: Told>(
     mut passes: Vec<Pass<S>>,
 ) -> Vec<Pass<S>>
     requires table { (seat.table_id ≡ turns.now.shared.table_id) × (turns.now.shared.table_id.words ≡ 2) }
-    requires seat { seat.me ≡ (turn (vec_len pasts) [] 0 (Some (S.fixed turns.now.shared.key.state.value)) (name_of turns.now.shared.key.passes turns.now.shared.key.home.value.table_id), []) }
+    requires seat { seat.me ≡ (turn (vec_len pasts) [] 0 (Some (S.fixed turns.now.shared.key.state.value)) (history_of turns.now.shared.key.passes turns.now.shared.key.home.value.table_id), []) }
     requires room { (vec_len passes ≡ 0) × (vec_len pasts ≤ vec_capacity passes) }
     requires pasts { AreNewSeats turns.now.shared.key.home.value.table_id pasts.items }
     ensures len { vec_len result ≡ vec_len pasts }

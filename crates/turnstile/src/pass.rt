@@ -23,7 +23,7 @@ impl<S: Told> Model for Pass<S> {
 
     ghost view = { λ p. record { number = p.past.me.0.number; seen = p.past.me.0.seen; mine = p.past.me.0.mine; fixed = p.turn.me.0.fixed; history = p.past.table_id; turns = p.turn.table_id } };
 
-    ghost invariant = { λ p. ((p.past.me.1 ≡ []) × (p.past.me.0.home ≡ 0) × (0 < p.past.me.0.number)) × ((p.turn.me.1 ≡ []) × (p.turn.me.0.tickets ≡ []) × (p.turn.me.0.holds ≡ 0) × (p.turn.me.0.parts ≡ 1)) × (id_of p.turn.me.0.history ≡ p.past.table_id) };
+    ghost invariant = { λ p. ((p.past.me.1 ≡ []) × (p.past.me.0.home ≡ 0) × (0 < p.past.me.0.number)) × ((p.turn.me.1 ≡ []) × (p.turn.me.0.tickets ≡ []) × (p.turn.me.0.holds ≡ 0) × (p.turn.me.0.parts ≡ 1)) × (id_of p.turn.me.0.history.table ≡ p.past.table_id) };
 }
 
 /// A turn. It is no `Drop`, so it ends in `leave` and nowhere else.
@@ -42,5 +42,5 @@ impl<S: Told> Model for Inside<S> {
 
     ghost view = { λ p. record { number = p.past.me.0.number; seen = p.past.me.0.seen; mine = p.past.me.0.mine; fixed = p.turn.me.0.fixed; history = p.past.table_id; turns = p.turn.table_id } };
 
-    ghost invariant = { λ p. ((p.past.me.1 ≡ []) × (p.past.me.0.home ≡ 1) × (0 < p.past.me.0.number) × (p.taken ≡ length p.past.me.0.seen)) × ((p.turn.me.0.holds ≡ 1) × (p.turn.me.0.parts ≡ 1) × (p.turn.me.1 ≡ (0, None) ∷ [])) × (id_of p.turn.me.0.history ≡ p.past.table_id) × (p.past.me.0.made ≡ p.turn.me.0.history.passes) };
+    ghost invariant = { λ p. ((p.past.me.1 ≡ []) × (p.past.me.0.home ≡ 1) × (0 < p.past.me.0.number) × (p.taken ≡ length p.past.me.0.seen)) × ((p.turn.me.0.holds ≡ 1) × (p.turn.me.0.parts ≡ 1) × (p.turn.me.1 ≡ (0, None) ∷ [])) × (id_of p.turn.me.0.history.table ≡ p.past.table_id) × (p.past.me.0.made ≡ p.turn.me.0.history.passes) };
 }

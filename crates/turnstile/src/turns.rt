@@ -54,12 +54,12 @@ pub struct TurnRule<S>(PhantomData<S>);
 
 impl<S: Told> TableRule<Option<Deposit<S>>, Turn<S::Fixed>, Key<S>> for TurnRule<S> {
     ghost use Rattle.turnstile.specs.Turns.{Ordered, turn};
-    ghost use Rattle.turnstile.specs.Names.{name_of, id_of};
+    ghost use Rattle.turnstile.specs.Names.{history_of, id_of};
     ghost use Rattle.std.specs.Prelude.{Some};
 
-    ghost holds = { λ key. Ordered (λ z f a. (a.home.table_id ≡ id_of z) × (a.home.me.0.made ≡ z.passes) × (f ≡ Some (S.fixed a.state))) key.passes (name_of key.passes key.home.value.table_id) (Some (S.fixed key.state.value)) };
+    ghost holds = { λ key. Ordered (λ z f a. (a.home.table_id ≡ id_of z.table) × (a.home.me.0.made ≡ z.passes) × (f ≡ Some (S.fixed a.state))) key.passes (history_of key.passes key.home.value.table_id) (Some (S.fixed key.state.value)) };
 
-    ghost first = { λ key. turn key.passes [] 0 (Some (S.fixed key.state.value)) (name_of key.passes key.home.value.table_id) };
+    ghost first = { λ key. turn key.passes [] 0 (Some (S.fixed key.state.value)) (history_of key.passes key.home.value.table_id) };
 }
 
 /// A ticket is drawn.
@@ -79,7 +79,7 @@ impl<S: Told> Play<Option<Deposit<S>>, Turn<S::Fixed>> for Takes<S> {
     ghost use Rattle.turnstile.specs.Names.{id_of};
     ghost use Rattle.std.specs.Prelude.{Some};
 
-    ghost then = { takes (λ z f a. (a.home.table_id ≡ id_of z) × (a.home.me.0.made ≡ z.passes) × (f ≡ Some (S.fixed a.state))) };
+    ghost then = { takes (λ z f a. (a.home.table_id ≡ id_of z.table) × (a.home.me.0.made ≡ z.passes) × (f ≡ Some (S.fixed a.state))) };
 }
 
 /// The turn goes to the next ticket.

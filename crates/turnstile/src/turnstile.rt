@@ -134,7 +134,7 @@ impl<S: Told> Turnstile<S> {
         requires table { turn.table_id ≡ self.now.turns }
         requires rests { (turn.me.1 ≡ []) × (turn.me.0.tickets ≡ []) × (turn.me.0.holds ≡ 0) × (0 < turn.me.0.parts) }
         ensures seat { (result.0.table_id ≡ turn.table_id) × (result.0.me.1 ≡ (0, None) ∷ []) × (result.0.me.0.holds ≡ 1) × (result.0.me.0.parts ≡ turn.me.0.parts) × (result.0.me.0.history ≡ turn.me.0.history) × (result.0.me.0.fixed ≡ turn.me.0.fixed) }
-        ensures deposit { (result.1.home.table_id ≡ id_of turn.me.0.history) × (result.1.home.me.0.made ≡ turn.me.0.history.passes) × (turn.me.0.fixed ≡ Some (S.fixed result.1.state)) }
+        ensures deposit { (result.1.home.table_id ≡ id_of turn.me.0.history.table) × (result.1.home.me.0.made ≡ turn.me.0.history.passes) × (turn.me.0.fixed ≡ Some (S.fixed result.1.state)) }
     {
         let ticket = self.turns.shared.fetch_add::<Draws>(&mut turn, 0, 1);
         for _ in rt.forever() {
@@ -152,9 +152,9 @@ impl<S: Told> Turnstile<S> {
         mut turn: Seat<Option<Deposit<S>>, Turn<S::Fixed>>,
     ) -> (Seat<Option<Deposit<S>>, Turn<S::Fixed>>, Deposit<S>)
         requires table { turn.table_id ≡ self.now.turns }
-        requires took { (a : _) × (turn.me.1 ≡ (0, Some a) ∷ []) × (a.home.table_id ≡ id_of turn.me.0.history) × (a.home.me.0.made ≡ turn.me.0.history.passes) × (turn.me.0.fixed ≡ Some (S.fixed a.state)) }
+        requires took { (a : _) × (turn.me.1 ≡ (0, Some a) ∷ []) × (a.home.table_id ≡ id_of turn.me.0.history.table) × (a.home.me.0.made ≡ turn.me.0.history.passes) × (turn.me.0.fixed ≡ Some (S.fixed a.state)) }
         ensures seat { (result.0.table_id ≡ turn.table_id) × (result.0.me ≡ (turn.me.0, (0, None) ∷ [])) }
-        ensures deposit { (result.1.home.table_id ≡ id_of turn.me.0.history) × (result.1.home.me.0.made ≡ turn.me.0.history.passes) × (turn.me.0.fixed ≡ Some (S.fixed result.1.state)) }
+        ensures deposit { (result.1.home.table_id ≡ id_of turn.me.0.history.table) × (result.1.home.me.0.made ≡ turn.me.0.history.passes) × (turn.me.0.fixed ≡ Some (S.fixed result.1.state)) }
     {
         let deposit = self.turns.shared.exchange(&mut turn, 0, None).unwrap();
         (turn, deposit)

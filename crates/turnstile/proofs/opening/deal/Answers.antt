@@ -4,7 +4,7 @@ use Rattle.std.proofs.lemmas.Iterator.Consumers.{YieldsList-turn, YieldsList-end
 use Rattle.std.proofs.lemmas.List.{length_push}
 use Rattle.atomic_table.proofs.Lists.{at_index}
 use Rattle.turnstile.specs.Turns.{turn, fewer}
-use Rattle.turnstile.specs.Names.{name_of, id_of}
+use Rattle.turnstile.specs.Names.{history_of, id_of}
 use Rattle.turnstile.specs.Opening.{AreDealt}
 use Rattle.turnstile.proofs.Totals.{at_each_snoc}
 use Rattle.turnstile.proofs.TurnRule.{splits}
@@ -27,7 +27,7 @@ invariant_of-push_reserved g c =
     let new = c.requires.pasts (length c.loop-past.yielded) c.in-Some.past (at_index _ _ _ t.0 t.1) in (
       (new.1, new.2, omega (arith, new.3)),
       (ap (λ m. m.1) e.4, ap (λ m. m.0.tickets) e.4, ap (λ m. m.0.holds) e.4, ap (λ m. m.0.parts) e.4),
-      ap (λ m. id_of m.0.history) e.4 ∙ (ap (λ m. id_of m.0.history) i.1 ∙ sym new.0),
+      ap (λ m. id_of m.0.history.table) e.4 ∙ (ap (λ m. id_of m.0.history.table) i.1 ∙ sym new.0),
     )
 
 pub loop-past-preserved : goal.loop-past-preserved
@@ -43,7 +43,7 @@ loop-past-preserved g c =
     let p = c.push_reserved.ensures in
     let less : vec_len c.args.pasts - length c.loop-past.yielded - 1 ≡ vec_len c.args.pasts - (length (c.loop-past.yielded ++ c.in-Some.past ∷ [])) = omega (arith, n) in (
       e.0 ∙ i.0,
-      e.2 ∙ (ap (λ m. (fewer m.0, m.1)) i.1 ∙ ap (λ k. (turn k [] 0 f (name_of key.passes key.home.value.table_id), [])) less),
+      e.2 ∙ (ap (λ m. (fewer m.0, m.1)) i.1 ∙ ap (λ k. (turn k [] 0 f (history_of key.passes key.home.value.table_id), [])) less),
       omega (arith, p.len, i.2, n),
       omega (arith, p.capacity, i.3),
       subst (λ l. AreDealt key.home.value.table_id c.args.turns.now.shared.table_id f l) (sym p.items) (at_each_snoc _ c.loop-past.passes.items (length c.loop-past.yielded) _ (sym c.loop-past.passes.ok.0 ∙ i.2)

@@ -35,7 +35,7 @@ fetch_add-requires-2 g c =
       e.0 ∙ (ap (λ p. p.turns) view ∙ (c.requires.turn.1 ∙ sym (ap (λ t. t.turns) c.self.view_is))),
       search rules,
       advances_at _ _ _ _ _ _ _ _ _ (ap (λ m. m.1) e.3) c.self.invariant.2 (let h = ap (λ m. m.0.parts) e.3 ∙ own.1.1 in omega arith) (let h = ap (λ m. m.0.holds) e.3 ∙ own.1.0 in omega arith) (
-        c.split_seat-home.ensures.3 ∙ (c.fetch_add.ensures.0 ∙ (sym own.2 ∙ sym (ap (λ m. id_of m.0.history) e.3))),
+        c.split_seat-home.ensures.3 ∙ (c.fetch_add.ensures.0 ∙ (sym own.2 ∙ sym (ap (λ m. id_of m.0.history.table) e.3))),
         ap (λ m. m.0.made) c.split_seat-home.ensures.4 ∙ (ap (λ m. m.0.made) c.fetch_add.ensures.2 ∙ (own.3 ∙ sym (ap (λ m. m.0.history.passes) e.3))),
         ap (λ m. m.0.fixed) e.3 ∙ (ap (λ p. p.fixed) view ∙ c.requires.fixed),
       ),

@@ -22,7 +22,7 @@ take_out-requires-clause-took g c =
     let t = e.2 hit in (
       t.0,
       ap (λ m. m.1) t.1 ∙ ap (λ l. (0, Some t.0) ∷ l) (ap (λ m. m.1) i.1),
-      t.2.0 ∙ sym (ap (λ m. id_of m.0.history) t.1),
+      t.2.0 ∙ sym (ap (λ m. id_of m.0.history.table) t.1),
       t.2.1 ∙ sym (ap (λ m. m.0.history.passes) t.1),
       ap (λ m. m.0.fixed) t.1 ∙ t.2.2,
     )
