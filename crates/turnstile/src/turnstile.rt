@@ -1,6 +1,6 @@
 //! The turnstile: `enter` waits for a turn and takes the value out, `leave` puts it back and ends the turn, `close` gives it up.
 //! A turn is one ticket. The value is put back before the next ticket is served, so no two turns have it at once.
-ghost use Rattle.std.specs.Prelude.{◌≡◌, ℕ, ◌+◌, ◌<◌, ◌++◌, ◌∷◌, [], All, length, slice_get, Some, None, vec_len, IfOk, IfErr};
+ghost use Rattle.std.specs.Prelude.{◌≡◌, ℕ, ◌+◌, ◌<◌, ◌++◌, ◌∷◌, [], All, length, Some, None, vec_len, IfOk, IfErr};
 ghost use mathlib.Core.List.{IsPrefix};
 ghost use Rattle.turnstile.specs.Totals.{Each};
 ghost use Rattle.turnstile.specs.Passes.{IsIn, IsMade, added};
@@ -36,7 +36,7 @@ impl<S: Told> Model for Turnstile<S> {
 }
 
 impl<S: Told> Turnstile<S> {
-    ghost use Rattle.turnstile.specs.Passes.{IsOf, IsNewPass};
+    ghost use Rattle.turnstile.specs.Passes.{IsOf, AreNewPasses};
     ghost use Rattle.turnstile.specs.Knows.{Knows};
 
     /// A turnstile round a value that tells nothing yet, with its passes, which are numbered from 1 as they stand in the list.
@@ -49,7 +49,7 @@ impl<S: Told> Turnstile<S> {
         requires empty { S.items state ≡ [] }
         ensures ok { IfOk result (λ r. (r.0.passes ≡ passes) × (r.0.fixed ≡ S.fixed state)) }
         ensures len { IfOk result (λ r. length r.1.list ≡ passes) }
-        ensures passes { IfOk result (λ r. (k : ℕ) (p : _) → slice_get r.1.list k ≡ Some p → IsNewPass r.0 (k + 1) p) }
+        ensures passes { IfOk result (λ r. AreNewPasses r.0 r.1.list) }
         ensures err { IfErr result (λ e. e.state ≡ state) }
     {
         let Ok(list) = Vec::with_capacity(alloc, passes as usize) else {
