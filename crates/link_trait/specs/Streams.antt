@@ -1,5 +1,5 @@
 -- What a read and a write do to what a source and a sink tell.
-use Rattle.std.specs.Prelude.{◌≡◌, ℕ, ◌≤◌, List, take}
+use Rattle.std.specs.Prelude.{◌≡◌, ℕ, ◌≤◌, List, take, min, Some}
 use Rattle.std.specs.declared.option.Option.{Option}
 use Rattle.std.specs.Io.KnownBytes.{prepend_known, append_known, IsAtEnd}
 use Rattle.link_trait.specs.declared.streams.Got.{Got}
@@ -20,6 +20,11 @@ abbrev pub IsTakenCount : Took → ℕ → Type 0
 IsTakenCount (TookBytes n) size = (1 ≤ n) × (n ≤ size)
 IsTakenCount TookFailed size = Unit {0}
 IsTakenCount TookNoMemory size = Unit {0}
+
+-- where it is known how much is taken at most, that much is taken, or the piece where it is shorter
+abbrev pub IsTakenBy : Option ℕ → Took → ℕ → Type 0
+IsTakenBy (Some most) (TookBytes n) size = n ≡ min most size
+IsTakenBy _ _ size = Unit {0}
 
 -- the bytes that were given stood at the front of what was left; the end is answered only where nothing was left
 abbrev pub GivesFrom : Option (List ℕ) → Option (List ℕ) → Got → List ℕ → Type 0

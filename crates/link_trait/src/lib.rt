@@ -29,3 +29,6 @@ pub use scripts::{FailingPrompter, ScriptPrompter};
 pub use steps::{Step, StepSeen, Steps};
 pub use streams::{Got, Sink, Source, Took};
 pub use tokens::{NoTokens, TokenCall, Tokens};
+
+#[cfg(test)]
+mod tests;

@@ -65,13 +65,11 @@ impl MemSource {
 }
 
 impl Source for MemSource {
-    ghost use Rattle.std.specs.Prelude.{Some, false};
+    ghost use Rattle.std.specs.Prelude.{Some};
 
     ghost left = { λ it. Some it.left };
 
     ghost faults = { λ it. it.counts.faults };
-
-    ghost sticks = { false };
 
     ghost schedule = { λ it. Some it.counts.schedule };
 
@@ -122,7 +120,7 @@ impl MemSink {
     pub fn new(alloc: Global, most: usize, failing: Calls) -> MemSink
         requires { 1 ≤ most }
         ensures held { ⟦<MemSink as Sink>⟧.held result ≡ Some [] }
-        ensures most { result.most ≡ most }
+        ensures most { ⟦<MemSink as Sink>⟧.most result ≡ Some most }
         ensures faults { ⟦<MemSink as Sink>⟧.faults result ≡ 0 }
         ensures schedule { ⟦<MemSink as Sink>⟧.schedule result ≡ Some (record { made = 0; listed = failing }) }
         ensures quiet { failing ≡ [] → ⟦<MemSink as Sink>⟧.quiet result }
@@ -143,13 +141,13 @@ impl MemSink {
 }
 
 impl Sink for MemSink {
-    ghost use Rattle.std.specs.Prelude.{Some, false};
+    ghost use Rattle.std.specs.Prelude.{Some};
 
     ghost held = { λ it. Some it.held };
 
-    ghost faults = { λ it. it.counts.faults };
+    ghost most = { λ it. Some it.most };
 
-    ghost sticks = { false };
+    ghost faults = { λ it. it.counts.faults };
 
     ghost schedule = { λ it. Some it.counts.schedule };
 

@@ -73,7 +73,7 @@ impl RecordedDialer {
 }
 
 impl Dialer for RecordedDialer {
-    ghost use Rattle.std.specs.Prelude.{Some, false};
+    ghost use Rattle.std.specs.Prelude.{Some};
 
     ghost dials = { λ it. Some it.log.dials };
 
@@ -84,8 +84,6 @@ impl Dialer for RecordedDialer {
     ghost opened = { λ it. it.log.opened };
 
     ghost faults = { λ it. it.counts.faults };
-
-    ghost sticks = { false };
 
     ghost schedule = { λ it. Some it.counts.schedule };
 

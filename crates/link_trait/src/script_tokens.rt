@@ -161,7 +161,7 @@ impl ScriptTokens {
 }
 
 impl Tokens for ScriptTokens {
-    ghost use Rattle.std.specs.Prelude.{Some, false};
+    ghost use Rattle.std.specs.Prelude.{Some};
 
     ghost told = { λ it. Some it.told };
 
@@ -170,8 +170,6 @@ impl Tokens for ScriptTokens {
     ghost taken = { λ it. Some it.taken };
 
     ghost faults = { λ it. it.faults };
-
-    ghost sticks = { false };
 
     ghost quiet = { λ it. are_quiet it.script ≡ true };
 

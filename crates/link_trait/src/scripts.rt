@@ -114,17 +114,13 @@ impl ScriptPrompter {
 }
 
 impl Prompter for ScriptPrompter {
-    ghost use Rattle.std.specs.Prelude.{Some, None, false};
+    ghost use Rattle.std.specs.Prelude.{Some};
 
     ghost told = { λ it. Some it.asks };
 
     ghost answers = { λ it. Some (answer_in it.answers) };
 
     ghost faults = { λ it. 0 };
-
-    ghost sticks = { false };
-
-    ghost schedule = { λ it. None };
 
     ghost quiet = { λ it. Unit {0} };
 
@@ -190,15 +186,13 @@ impl FailingPrompter {
 }
 
 impl Prompter for FailingPrompter {
-    ghost use Rattle.std.specs.Prelude.{Some, false};
+    ghost use Rattle.std.specs.Prelude.{Some};
 
     ghost told = { λ it. Some it.script.asks };
 
     ghost answers = { λ it. Some (answer_in it.script.answers) };
 
     ghost faults = { λ it. it.counts.faults };
-
-    ghost sticks = { false };
 
     ghost schedule = { λ it. Some it.counts.schedule };
 

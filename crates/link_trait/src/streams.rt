@@ -27,7 +27,7 @@ pub enum Took {
 
 /// Where bytes come from.
 pub trait Source {
-    ghost use Rattle.std.specs.Prelude.{◌≡◌, ◌≢◌, ◌<◌, ◌≤◌, Bool, List, ℕ, length};
+    ghost use Rattle.std.specs.Prelude.{◌≡◌, ◌≢◌, ◌<◌, ◌≤◌, Bool, None, List, ℕ, length, false};
     ghost use Rattle.std.specs.Option.{option_map};
     ghost use Rattle.std.specs.declared.option.Option.{Option};
     ghost use Rattle.link_trait.specs.Faults.{Rose, Schedule, FailsBy, one_more};
@@ -40,10 +40,10 @@ pub trait Source {
     ghost faults: { Self → ℕ };
 
     /// Whether that count may stand still at the greatest u64; in memory it never does.
-    ghost sticks: { Bool };
+    ghost sticks: { Bool } = { false };
 
     /// Which calls fail, where it is known.
-    ghost schedule: { Self → Option Schedule };
+    ghost schedule: { Self → Option Schedule } = { λ _. None };
 
     /// It fails no more.
     ghost quiet: { Self → Type 0 };
@@ -67,23 +67,26 @@ pub trait Source {
 
 /// Where bytes go.
 pub trait Sink {
-    ghost use Rattle.std.specs.Prelude.{◌≡◌, ◌≢◌, ◌<◌, ◌≤◌, Bool, List, ℕ, length};
+    ghost use Rattle.std.specs.Prelude.{◌≡◌, ◌≢◌, ◌<◌, ◌≤◌, Bool, None, List, ℕ, length, false};
     ghost use Rattle.std.specs.Option.{option_map};
     ghost use Rattle.std.specs.declared.option.Option.{Option};
     ghost use Rattle.link_trait.specs.Faults.{Rose, Schedule, FailsBy, one_more};
-    ghost use Rattle.link_trait.specs.Streams.{IsTakenCount, TakesFrom};
+    ghost use Rattle.link_trait.specs.Streams.{IsTakenCount, IsTakenBy, TakesFrom};
 
     /// What it holds, where it is told.
     ghost held: { Self → Option (List ℕ) };
+
+    /// How many bytes it takes at most in a call, where it takes all that it can and this is known.
+    ghost most: { Self → Option ℕ } = { λ _. None };
 
     /// How often it has failed.
     ghost faults: { Self → ℕ };
 
     /// Whether that count may stand still at the greatest u64; in memory it never does.
-    ghost sticks: { Bool };
+    ghost sticks: { Bool } = { false };
 
     /// Which calls fail, where it is known.
-    ghost schedule: { Self → Option Schedule };
+    ghost schedule: { Self → Option Schedule } = { λ _. None };
 
     /// It fails no more.
     ghost quiet: { Self → Type 0 };
@@ -92,6 +95,8 @@ pub trait Sink {
     fn write(&mut self, bytes: &[u8]) -> Took
         requires { 0 < length bytes.now }
         ensures count { IsTakenCount result (length bytes.now) }
+        ensures most { most self.new ≡ most self.old }
+        ensures taken { IsTakenBy (most self.old) result (length bytes.now) }
         ensures held { TakesFrom (held self.old) (held self.new) result bytes.now }
         ensures later { faults self.old ≤ faults self.new }
         ensures failed { result ≡ Took.Failed → Rose sticks (faults self.old) (faults self.new) }
