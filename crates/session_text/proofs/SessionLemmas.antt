@@ -1,5 +1,5 @@
 -- Reading line by line gives the session.
-use Rattle.std.proofs.Common.{inl, inr, ◌≡◌, ℕ, zero, suc, ◌+◌, ◌<◌, ◌≤◌, ◌==◌, ◌||◌, nat_lt, Bool, true, false, not, cond, List, [], ◌∷◌, ◌++◌, length, take, drop, map, Option, Some, None, Result, Ok, Err, refl, sym, ap, ◌∙◌, arith, length-append}
+use Rattle.std.proofs.Common.{inl, inr, ◌≡◌, ℕ, ◌+◌, ◌<◌, ◌≤◌, ◌==◌, Bool, true, false, not, cond, List, [], ◌∷◌, ◌++◌, length, take, drop, Option, Some, None, Result, Ok, Err, refl, sym, ap, ◌∙◌, arith}
 use Rattle.std.specs.Prelude.{filter_map, slice_get, unwrap_or, is_some}
 use Rattle.std.specs.List.{slice_split, position_or_len}
 use Rattle.std.proofs.lemmas.Bool.{cases_lt, true≢false, eqb-true}
@@ -12,12 +12,11 @@ use Rattle.session_text.specs.declared.line.LineFault.{LineFault}
 use Rattle.session_text.specs.declared.session.Session.{Session}
 use Rattle.session_text.specs.declared.session.Reading.{Reading}
 use Rattle.session_text.specs.declared.session.SessionFault.{SessionFault}
-use Rattle.session_text.specs.declared.session.SessionFault.TheVariants.{BadLine, TooMany}
-use Rattle.session_text.specs.declared.session.What.TheVariants.{Requests as TooManyRequests, Workers as TooManyWorkers}
+use Rattle.session_text.specs.declared.session.SessionFault.TheVariants.{BadLine}
 use Rattle.session_text.specs.Forms.{line}
 use Rattle.session_text.specs.Cuts.{is_end, lines_of, lines}
 use Rattle.session_text.specs.Sessions.{said_workers, said_request, said_allowed, said_answer, said_link, said_step, starts_request, requests_in, by_request, workers_in, is_none_before, session_of, fault, unless, after, right_lines, session, ◌>=>◌}
-use Rattle.session_text.specs.Readings.{reading_of, finished, fault_in, in_last, with_line, unless_fault, after_line, after_text, resume, start}
+use Rattle.session_text.specs.Readings.{reading_of, finished, fault_in, with_line, unless_fault, after_line, after_text, resume, start}
 use Rattle.session_text.proofs.CutLemmas.{split_more, split_last}
 use Rattle.session_text.proofs.GroupLemmas.{split_some, adds, filter_map_push, grouped, groups_push}
 

@@ -1,11 +1,8 @@
 -- The forms of a line.
-use Rattle.std.specs.Prelude.{ℕ, Bool, true, ◌==◌, ◌&&◌, not, List, [], ◌∷◌, length, codes, bytes_eq, slice_index, Option, Some, None, Result, Ok, Err, if◌then◌else◌}
+use Rattle.std.specs.Prelude.{ℕ, Bool, true, ◌==◌, ◌&&◌, List, [], ◌∷◌, codes, bytes_eq, Option, Some, None, Result, Ok, Err, if◌then◌else◌}
 use Rattle.auth_text.specs.Login.{Login, login}
-use Rattle.auth_text.specs.declared.identity.IdentityFault.{IdentityFault}
 use Rattle.spaces.specs.Places.{place}
-use Rattle.spaces.specs.declared.place.Place.{Place}
 use Rattle.spaces.specs.declared.place.Origin.{Origin}
-use Rattle.spaces.specs.declared.place.PlaceFault.{PlaceFault}
 use Rattle.spaces.specs.Partitions.{partition}
 use Rattle.spaces.specs.declared.roster.Method.{Method}
 use Rattle.spaces.specs.declared.roster.Method.TheVariants.{Get, Head}
@@ -14,7 +11,6 @@ use Rattle.spaces.specs.declared.site.Target.TheVariants.{Server, Proxy}
 use Rattle.spaces.specs.declared.space.Scheme.{Scheme}
 use Rattle.spaces.specs.declared.space.Scheme.TheVariants.{Basic, Digest, Negotiate}
 use Rattle.spaces.specs.ProtectionSpaces.{ProtectionSpace}
-use Rattle.spaces.specs.declared.roster.Request.{Request}
 use Rattle.session_text.specs.declared.line.Line.{Line}
 use Rattle.session_text.specs.declared.line.Line.TheVariants.{Passed, Header, Workers, Default, Request as Requested, Link, Token, Answer}
 use Rattle.link_trait.specs.declared.steps.Step.TheVariants.{Token as StepToken, Done, Refused, NoMechanism}

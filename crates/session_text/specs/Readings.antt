@@ -1,5 +1,5 @@
 -- What the lines read so far say, and the lines that are left.
-use Rattle.std.specs.Prelude.{ℕ, ◌+◌, Bool, true, false, not, ◌||◌, ◌==◌, nat_lt, List, [], ◌∷◌, ◌++◌, length, filter_map, Option, Some, None, is_some, unwrap_or, slice_get, Result, Ok, Err, if◌then◌else◌}
+use Rattle.std.specs.Prelude.{ℕ, ◌+◌, true, false, not, ◌||◌, ◌==◌, nat_lt, List, [], ◌∷◌, ◌++◌, length, filter_map, Option, Some, None, is_some, unwrap_or, slice_get, Result, Ok, Err, if◌then◌else◌}
 use Rattle.session_text.specs.declared.line.Line.{Line}
 use Rattle.session_text.specs.declared.line.Line.TheVariants.{Passed, Header, Workers, Default, Request as Requested, Link, Token, Answer as Answered}
 use Rattle.session_text.specs.declared.line.LineFault.{LineFault}

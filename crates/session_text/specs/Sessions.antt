@@ -1,5 +1,5 @@
 -- The session that a text is, or the first line at fault.
-use Rattle.std.specs.Prelude.{ℕ, ◌+◌, Bool, true, false, not, ◌||◌, ◌==◌, nat_lt, List, [], ◌∷◌, ◌++◌, length, map, filter_map, drop, Option, Some, None, is_some, unwrap_or, slice_get, Result, Ok, Err, if◌then◌else◌}
+use Rattle.std.specs.Prelude.{ℕ, ◌+◌, Bool, not, ◌||◌, ◌==◌, nat_lt, List, [], ◌∷◌, ◌++◌, length, map, filter_map, drop, Option, Some, None, is_some, unwrap_or, slice_get, Result, Ok, Err, if◌then◌else◌}
 use Rattle.std.specs.List.{slice_split}
 use Rattle.spaces.specs.declared.place.Origin.{Origin}
 use Rattle.spaces.specs.declared.roster.Request.{Request}

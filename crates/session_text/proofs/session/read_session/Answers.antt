@@ -1,6 +1,6 @@
-use Rattle.std.proofs.Common.{refl, ◌≡◌, ◌+◌, ◌<◌, ◌≤◌, ◌∙◌, length, sym, inl, inr, arith, length-drop, ap, drop, take}
+use Rattle.std.proofs.Common.{◌+◌, ◌∙◌, sym, inl, inr, arith, length-drop, ap, drop, take}
 use Rattle.session_text.specs.Cuts.{lines}
-use Rattle.session_text.specs.Readings.{after_text, resume, start}
+use Rattle.session_text.specs.Readings.{after_text}
 use Rattle.session_text.proofs.SessionLemmas.{lines_step, stops, goes_on, ends, ends_well, ends_badly, some_left, none_left}
 use Rattle.session_text.proofs.session.read_session.Goals as goal
 

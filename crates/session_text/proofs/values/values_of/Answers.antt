@@ -1,4 +1,4 @@
-use Rattle.std.proofs.Common.{inl, arith, subst, ap, ◌∙◌, ◌≡◌, ◌++◌, ◌∷◌, [], List, ℕ, Ok, take}
+use Rattle.std.proofs.Common.{inl, arith, ◌≡◌, take}
 use Rattle.session_text.specs.Words.{word_value}
 use Rattle.session_text.proofs.ValueLemmas.{empty_word, last_word, next_word}
 use Rattle.session_text.proofs.values.values_of.Goals as goal
