@@ -4,3 +4,4 @@ pub mod Places
 pub mod ProtectionSpaces
 pub mod Sites
 pub mod DigestTerms
+pub mod RequestTargets

@@ -1,5 +1,5 @@
 -- The sites of a request, and when two things are the same.
-use Rattle.std.specs.Prelude.{ℕ, Bool, true, false, ◌&&◌, ◌==◌, ◌-◌, List, [], ◌∷◌, Option, None, Some, option_map, slice_get, bytes_eq, if◌then◌else◌}
+use Rattle.std.specs.Prelude.{ℕ, Bool, true, false, ◌&&◌, ◌==◌, ◌-◌, List, [], ◌∷◌, Option, None, Some, is_some, option_map, option_and_then, unwrap_or, slice_get, bytes_eq, if◌then◌else◌}
 use Rattle.spaces.specs.declared.site.Target.{Target}
 use Rattle.spaces.specs.declared.site.Target.TheVariants.{Server, Proxy, Socks}
 use Rattle.spaces.specs.declared.place.Origin.{Origin}
@@ -45,3 +45,17 @@ site request Socks = None
 abbrev pub path : Request → Target → List ℕ
 path request Server = request.place.path
 path request _ = 47 ∷ []
+
+-- the target is on the request's route: the proxy, where it has one, and then the server
+abbrev pub is_on_route : Request → Target → Bool
+is_on_route request Server = true
+is_on_route request Proxy = is_some request.proxy
+is_on_route request Socks = false
+
+-- there is a request of that number, and the target is on its route
+abbrev pub is_routed : List Request → ℕ → Target → Bool
+is_routed requests n target = unwrap_or (option_map (λ request. is_on_route request target) (numbered requests n)) false
+
+-- the site of the numbered request for the target
+abbrev pub site_of : List Request → ℕ → Target → Option Site
+site_of requests n target = option_and_then (λ request. site request target) (numbered requests n)

@@ -5,10 +5,13 @@
 mod partition;
 mod path;
 mod place;
+mod request_target;
 mod roster;
 mod site;
 mod space;
 mod terms;
+#[cfg(test)]
+mod tests;
 
 pub use partition::{Partition, PartitionFault};
 pub use path::{covers, dir_of};

@@ -1,10 +1,11 @@
 //! Places: the parts of an http URL that authentication looks at, read by the crate `url`, so that
 //! no host or path is understood otherwise here than by the browser around it.
 
-ghost use Rattle.std.specs.Prelude.{◌≡◌, Ok};
+ghost use Rattle.std.specs.Prelude.{◌≡◌, Ok, IfOk};
 ghost use Rattle.auth_text.specs.Gives.{GivesBy};
 ghost use Rattle.percent_encoding.specs.Percent.{percent_decode};
-ghost use Rattle.spaces.specs.Places.{place, http_url, url_login};
+ghost use Rattle.spaces.specs.Places.{place, http_url, parts_place, url_login};
+ghost use Rattle.url.specs.Parts.{IsValid};
 
 use auth_text::{Bytes, Identity, IdentityFault};
 use percent_encoding::percent_decode;
@@ -102,13 +103,11 @@ fn identity_of(alloc: Global, url: &Url) -> Result<Option<Identity>, PlaceFault>
     }
 }
 
-/// Reads a URL. `BadUrl` comes exactly where the bytes aren't UTF-8 or no URL, then `NotHttp`
-/// exactly where the scheme isn't `http`. A URL that is too long for the parser is `NoMemory`.
-pub fn place_of(alloc: Global, text: &[u8]) -> Result<Place, PlaceFault>
-    ensures { GivesBy PlaceFault.NoMemory (λ it. it) result (place text.now) }
+fn parts_of(alloc: Global, url: &Url) -> Result<Place, PlaceFault>
+    ensures value { GivesBy PlaceFault.NoMemory (λ it. it) result (Ok (parts_place url.now)) }
+    ensures valid { IfOk result (λ it. IsValid url.now) }
 {
-    let url = url_of(alloc, text)?;
-    let identity = identity_of(alloc, &url)?;
+    let identity = identity_of(alloc, url)?;
     let text = copy(alloc, url.as_str())?;
     let host = copy(alloc, url.host_str().unwrap_or(""))?;
     let port = url.port().unwrap_or(80);
@@ -124,4 +123,16 @@ pub fn place_of(alloc: Global, text: &[u8]) -> Result<Place, PlaceFault>
         query,
         identity,
     })
+}
+
+/// Reads a URL. `BadUrl` comes exactly where the bytes aren't UTF-8 or no URL, then `NotHttp`
+/// exactly where the scheme isn't `http`. A URL that is too long for the parser is `NoMemory`.
+/// The text of the place, which is the URL as the URL standard writes it, reads as the same place.
+#[tactic(auto, using(crate::proofs::PlaceLemmas::reads_again))]
+pub fn place_of(alloc: Global, text: &[u8]) -> Result<Place, PlaceFault>
+    ensures value { GivesBy PlaceFault.NoMemory (λ it. it) result (place text.now) }
+    ensures again { IfOk result (λ it. place it.text ≡ Ok it) }
+{
+    let url = url_of(alloc, text)?;
+    parts_of(alloc, &url)
 }

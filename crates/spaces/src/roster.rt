@@ -1,10 +1,12 @@
 //! The roster: all requests of a session, and the origins that get the default identity unasked.
 
-ghost use Rattle.std.specs.Prelude.{◌≡◌, ◌≤◌, ◌++◌, ◌∷◌, [], length, IfErr, OnErr, OnOk, option_copied};
-ghost use Rattle.spaces.specs.Sites.{numbered};
+ghost use Rattle.std.specs.Prelude.{◌≡◌, ◌++◌, ◌∷◌, [], Some, length, slice_get, IfOk, IfErr, IsTrue, MatchOption, OnErr, OnOk, option_copied};
+ghost use Rattle.spaces.specs.Sites.{is_routed, numbered, site_of};
 
 use crate::partition::Partition;
 use crate::place::{Origin, Place};
+use crate::site::{Site, Target};
+use auth_text::NoMemory;
 use std::alloc::{AllocFailed, Global};
 use std::marker::Model;
 
@@ -80,6 +82,13 @@ impl Requests {
         self.items.push(request)
     }
 
+    /// Takes the last request out.
+    pub fn pop(&mut self) -> Option<Request>
+        ensures { MatchOption result ((self.old ≡ []) × (self.new ≡ [])) (λ last. self.old ≡ self.new ++ last ∷ []) }
+    {
+        self.items.pop()
+    }
+
     /// How many requests there are.
     pub fn len(&self) -> usize
         ensures { result ≡ length self.now }
@@ -124,10 +133,66 @@ impl Origins {
         self.items.push(origin)
     }
 
+    /// Takes the last origin out.
+    pub fn pop(&mut self) -> Option<Origin>
+        ensures { MatchOption result ((self.old ≡ []) × (self.new ≡ [])) (λ last. self.old ≡ self.new ++ last ∷ []) }
+    {
+        self.items.pop()
+    }
+
+    /// How many origins there are.
+    pub fn len(&self) -> usize
+        ensures { result ≡ length self.now }
+    {
+        self.items.len()
+    }
+
+    /// The origin at that place, from 0.
+    pub fn get(&self, at: usize) -> Option<&Origin>
+        ensures { option_copied result ≡ slice_get self.now at }
+    {
+        self.items.get(at)
+    }
+
     /// The origins, in the order in which they were added.
     pub fn as_slice(&self) -> &[Origin]
         ensures { result.now ≡ self.now }
     {
         self.items.as_slice()
+    }
+}
+
+fn site_at(
+    alloc: Global,
+    partition: &Partition,
+    target: Target,
+    origin: &Origin,
+) -> Result<Site, NoMemory>
+    ensures { IfOk result (λ site. site ≡ record { partition = partition.now; target = target; origin = origin.now }) }
+{
+    Ok(Site {
+        partition: partition.clone()?,
+        target,
+        origin: origin.clone()?,
+    })
+}
+
+impl Roster {
+    /// The numbered request's site for a target on its route. The route is the proxy, where the
+    /// request has one, and then the server.
+    pub fn site(&self, alloc: Global, request: u32, target: Target) -> Result<Site, NoMemory>
+        requires { IsTrue (is_routed self.now.requests request target) }
+        ensures { IfOk result (λ site. site_of self.now.requests request target ≡ Some site) }
+    {
+        let Some(request) = self.requests.get(request) else {
+            unreachable!()
+        };
+        match (target, &request.proxy) {
+            (Target::Server, _) => {
+                site_at(alloc, &request.partition, target, &request.place.origin)
+            }
+            (Target::Proxy, Some(proxy)) => site_at(alloc, &request.partition, target, proxy),
+            _ => unreachable!(),
+        }
     }
 }

@@ -1,0 +1,75 @@
+-- Terms more.
+use Rattle.std.proofs.Common.{◌≡◌, ◌≤◌, ◌*◌, ◌++◌, ◌∷◌, [], ◌+◌, length, ap, sym, subst, ◌∙◌, arith, None, Some, Option, length-append}
+use Rattle.spaces.specs.declared.terms.Terms.{Terms}
+use Rattle.std.proofs.Math.Logic.{∥∥₁_elim, ∥∥₁_map}
+use Rattle.std.specs.Coded.{le_prop}
+use Rattle.std.specs.Prelude.{IsTrue}
+use Rattle.spaces.specs.Sites.{numbered}
+use Rattle.auth_events.specs.declared.told.NewName.{NewName}
+use Rattle.auth_events.specs.declared.names.TermsName.{TermsName}
+use Rattle.auth_events.specs.declared.told.NameKind.TheVariants.{Space as OfSpace, Terms as OfTerms, Text as OfText}
+use Rattle.auth_events.specs.Tables.{Tables, space_number, terms_number, nonce_for, is_home, with_space, with_terms, with_text}
+use Rattle.auth_events.specs.Told.{told_space, told_terms, MayNameSpace, MayNameTerms}
+use Rattle.auth_events.specs.Ledgers.{IsKept, told_of}
+use Rattle.auth_events.proofs.Numbers.{numbered-last}
+use Rattle.auth_events.proofs.Naming.{nonce_for-few}
+use Rattle.auth_events.proofs.Once.{same_told_prop}
+use Rattle.auth_events.proofs.RoomLemmas.{length-le-room}
+use Rattle.auth_events.proofs.Keeping.{few_terms, kept_with_space, told_with_space, kept_with_terms, told_with_terms, kept_with_text, told_with_text}
+use Rattle.auth_events.proofs.ledger.Ledger.name_terms.Goals as goal
+
+pub overflow_cast-before : goal.overflow_cast-before
+overflow_cast-before c =
+    let l = c.args.self.now in
+    omega (arith, ap length c.entries.ensures.entries, length-le-room l.journal.requests l.journal.entries c.entries.ensures.within, l.requests, l.few)
+
+pub push_terms-requires-clause-few_nonces : goal.push_terms-requires-clause-few_nonces
+push_terms-requires-clause-few_nonces c =
+    let l = c.args.self.now in
+    ∥∥₁_elim l.kept le_prop (λ kept. (
+    let name : TermsName = record { space = c.args.space; terms = c.args.terms.now; nonce = nonce_for l.names c.args.space c.args.terms.now } in
+    let few = few_terms l.roster l.names l.made.items l.journal.entries kept name c.requires.may c.requires.new in
+    let small = nonce_for-few l.names c.args.space c.args.terms.now (length l.roster.requests) kept.within few.1 in
+    omega (arith, small, c.nonce_for-nonce.ensures, l.few)))
+
+pub invariant_of-self-2 : goal.invariant_of-self-2
+invariant_of-self-2 c =
+    let l = c.args.self.now in
+    let copied : c.in_ok-copy.copy ≡ c.args.terms.now = c.in_ok-copy.ensures in
+    let one : TermsName = record { space = c.args.space; terms = c.in_ok-copy.copy; nonce = c.nonce_for-nonce.result } in
+    let name : NewName = record { kind = OfTerms; number = c.terms_len-number.result; caller = c.args.caller; before = length c.entries.result.now } in
+    record {
+      few = l.few;
+      requests = l.requests;
+      kept = ∥∥₁_map l.kept (λ kept. kept_with_terms l.roster l.names l.made.items l.journal.entries c.push_terms.new.self c.push_reserved.new.self.items c.args.caller c.terms_len-number.result (length c.entries.result.now) one kept
+          (subst (λ t. IsTrue (is_home l.names c.args.space t)) (sym copied) c.requires.home)
+          (subst (MayNameTerms l.roster l.names c.args.space) (sym copied) c.requires.may)
+          (ap (terms_number l.names c.args.space) copied ∙ c.requires.new)
+          (c.nonce_for-nonce.ensures ∙ sym (ap (nonce_for l.names c.args.space) copied))
+          c.in_ok-push_terms.ensures.ok c.terms_len-number.ensures.len (ap length c.entries.ensures.entries)
+          (c.push_reserved.ensures.items ∙ ap (λ made. made ++ name ∷ []) c.in_ok-reserve.ensures.items));
+    }
+
+pub returns-clause-number : goal.returns-clause-number
+returns-clause-number c =
+    let l = c.args.self.now in
+    let one : TermsName = record { space = c.args.space; terms = c.in_ok-copy.copy; nonce = c.nonce_for-nonce.result } in
+    let named : Terms → Option TermsName = λ t. Some (record { space = c.args.space; terms = t; nonce = c.nonce_for-nonce.result }) in
+    let terms = ap (λ (t : Tables). t.terms) c.in_ok-push_terms.ensures.ok in
+    let last : c.terms_len-number.result ≡ length l.names.terms + 1 = c.terms_len-number.ensures.len ∙ (ap length terms ∙ length-append l.names.terms (one ∷ [])) in
+    ap (λ xs. numbered xs c.terms_len-number.result) terms
+    ∙ (ap (numbered (l.names.terms ++ one ∷ [])) last
+    ∙ (numbered-last l.names.terms one ∙ ap named c.in_ok-copy.ensures))
+
+pub returns-clause-told : goal.returns-clause-told
+returns-clause-told c =
+    let l = c.args.self.now in
+    let copied : c.in_ok-copy.copy ≡ c.args.terms.now = c.in_ok-copy.ensures in
+    let one : TermsName = record { space = c.args.space; terms = c.in_ok-copy.copy; nonce = c.nonce_for-nonce.result } in
+    let name : NewName = record { kind = OfTerms; number = c.terms_len-number.result; caller = c.args.caller; before = length c.entries.result.now } in
+    ∥∥₁_elim l.kept (same_told_prop _ _) (λ kept. told_with_terms l.roster l.names l.made.items l.journal.entries c.push_terms.new.self c.push_reserved.new.self.items c.args.caller c.terms_len-number.result (length c.entries.result.now) one kept
+    (ap (terms_number l.names c.args.space) copied ∙ c.requires.new)
+    (c.nonce_for-nonce.ensures ∙ sym (ap (nonce_for l.names c.args.space) copied))
+    c.in_ok-push_terms.ensures.ok c.terms_len-number.ensures.len (ap length c.entries.ensures.entries)
+    (c.push_reserved.ensures.items ∙ ap (λ made. made ++ name ∷ []) c.in_ok-reserve.ensures.items)
+    ∙ ap (told_terms c.args.caller l.names (told_of l.names l.made.items l.journal.entries) c.args.space) copied)

@@ -1,0 +1,11 @@
+pub mod NameLemmas
+pub mod FlatLemmas
+pub mod CutLemmas
+pub mod TrimLemmas
+pub mod StepLemmas
+pub mod FormLemmas
+pub mod EdgeLemmas
+pub mod SpellingLemmas
+pub mod SpellingWalk
+pub mod SpelledFields
+pub mod WritingLemmas

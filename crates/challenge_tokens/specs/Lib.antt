@@ -1,0 +1,9 @@
+pub mod Bodies
+pub mod Cutting
+pub mod Examples
+pub mod Forms
+pub mod Names
+pub mod Pieces
+pub mod Reading
+pub mod Spelling
+pub mod Writing

@@ -1,0 +1,217 @@
+//! Prompters in memory, which answer as a session's answers say.
+
+ghost use Rattle.std.specs.Prelude.{◌≡◌, [], IfOk, option_copied};
+ghost use Rattle.link_trait.specs.Prompts.{answer_in};
+
+use crate::answers::Answers;
+use crate::calls::{Calls, Failures};
+use crate::prompts::{Ask, Asked, Prompter};
+use auth_text::{Bytes, Identity, Items, NoMemory};
+use spaces::{Site, Space, same_space};
+use std::alloc::Global;
+use std::marker::Model;
+
+/// The answer to a space's prompt of an ordinal.
+fn answer_in<'a>(
+    answers: &'a [(Space, Option<Identity>)],
+    space: &Space,
+    ordinal: u32,
+) -> Option<&'a Identity>
+    ensures { option_copied result ≡ answer_in answers.now space.now ordinal }
+{
+    let mut left = ordinal;
+    for answer in answers {
+        if same_space(&answer.0, space) {
+            if left == 1 {
+                return answer.1.as_ref();
+            }
+            left = left.saturating_sub(1);
+        }
+    }
+    None
+}
+
+pub(crate) fn copy_identity(identity: Option<&Identity>) -> Result<Option<Identity>, NoMemory>
+    ensures { IfOk result (λ copy. copy ≡ option_copied identity.entry) }
+{
+    match identity {
+        None => Ok(None),
+        Some(identity) => Ok(Some(identity.clone()?)),
+    }
+}
+
+fn copy_site(site: &Site) -> Result<Site, NoMemory>
+    ensures { IfOk result (λ copy. copy ≡ site.now) }
+{
+    Ok(Site {
+        partition: site.partition.clone()?,
+        target: site.target,
+        origin: site.origin.clone()?,
+    })
+}
+
+fn copy_space(alloc: Global, space: &Space) -> Result<Space, NoMemory>
+    ensures { IfOk result (λ copy. copy ≡ space.now) }
+{
+    let site = copy_site(space.site())?;
+    let realm = Bytes::from_slice(alloc, space.realm())?;
+    Ok(Space::new(site, space.scheme(), realm))
+}
+
+fn copy_answer(
+    alloc: Global,
+    answer: &(Space, Option<Identity>),
+) -> Result<(Space, Option<Identity>), NoMemory>
+    ensures { IfOk result (λ copy. copy ≡ answer.now) }
+{
+    let space = copy_space(alloc, &answer.0)?;
+    let given = copy_identity(answer.1.as_ref())?;
+    Ok((space, given))
+}
+
+fn copy_answers(alloc: Global, answers: &[(Space, Option<Identity>)]) -> Result<Answers, NoMemory>
+    ensures { IfOk result (λ copies. copies ≡ answers.now) }
+{
+    let mut copies = Answers::new(alloc);
+    for answer in answers {
+        copies.push(copy_answer(alloc, answer)?)?;
+    }
+    Ok(copies)
+}
+
+/// A prompter that answers from a list, and cancels past a space's last answer. It never fails.
+#[derive(Drop)]
+pub struct ScriptPrompter {
+    alloc: Global,
+    answers: Answers,
+    asks: Items<Ask>,
+}
+
+impl Model for ScriptPrompter {
+    ghost use Rattle.link_trait.specs.Prompts.{PrompterState};
+
+    ghost Value = { PrompterState };
+
+    ghost view = { λ it. record { answers = it.answers; asks = it.asks } };
+}
+
+impl ScriptPrompter {
+    ghost use Rattle.std.specs.Prelude.{Some};
+
+    /// A prompter with a copy of the answers. It has answered nothing yet.
+    pub fn new(alloc: Global, answers: &Answers) -> Result<ScriptPrompter, NoMemory>
+        ensures answers { IfOk result (λ it. ⟦<ScriptPrompter as Prompter>⟧.answers it ≡ Some (answer_in answers.now)) }
+        ensures told { IfOk result (λ it. ⟦<ScriptPrompter as Prompter>⟧.told it ≡ Some []) }
+        ensures faults { IfOk result (λ it. ⟦<ScriptPrompter as Prompter>⟧.faults it ≡ 0) }
+        ensures quiet { IfOk result (λ it. ⟦<ScriptPrompter as Prompter>⟧.quiet it) }
+    {
+        Ok(ScriptPrompter {
+            alloc,
+            answers: copy_answers(alloc, answers.as_slice())?,
+            asks: Items::new(alloc),
+        })
+    }
+}
+
+impl Prompter for ScriptPrompter {
+    ghost use Rattle.std.specs.Prelude.{Some, None, false};
+
+    ghost told = { λ it. Some it.asks };
+
+    ghost answers = { λ it. Some (answer_in it.answers) };
+
+    ghost faults = { λ it. 0 };
+
+    ghost sticks = { false };
+
+    ghost schedule = { λ it. None };
+
+    ghost quiet = { λ it. Unit {0} };
+
+    fn ask(&mut self, space: &Space, ordinal: u32) -> Asked {
+        let Ok(asked_for) = copy_space(self.alloc, space) else {
+            return Asked::NoMemory;
+        };
+        let Ok(given) = copy_identity(answer_in(self.answers.as_slice(), space, ordinal)) else {
+            return Asked::NoMemory;
+        };
+        match self.asks.push(Ask {
+            space: asked_for,
+            ordinal,
+        }) {
+            Err(_) => Asked::NoMemory,
+            Ok(()) => match given {
+                Some(identity) => Asked::Given(identity),
+                None => Asked::Cancel,
+            },
+        }
+    }
+
+    fn faults(&self) -> u64 {
+        0
+    }
+}
+
+/// A prompter that fails at listed calls, and answers as a script at the others.
+#[derive(Drop)]
+pub struct FailingPrompter {
+    script: ScriptPrompter,
+    failures: Failures,
+}
+
+impl Model for FailingPrompter {
+    ghost use Rattle.link_trait.specs.Prompts.{FailingState};
+
+    ghost Value = { FailingState };
+
+    ghost view = { λ it. record { script = it.script; counts = it.failures } };
+}
+
+impl FailingPrompter {
+    ghost use Rattle.std.specs.Prelude.{Some};
+
+    /// A prompter with a copy of the answers, whose asks of the listed numbers fail.
+    pub fn new(
+        alloc: Global,
+        answers: &Answers,
+        failing: Calls,
+    ) -> Result<FailingPrompter, NoMemory>
+        ensures answers { IfOk result (λ it. ⟦<FailingPrompter as Prompter>⟧.answers it ≡ Some (answer_in answers.now)) }
+        ensures told { IfOk result (λ it. ⟦<FailingPrompter as Prompter>⟧.told it ≡ Some []) }
+        ensures faults { IfOk result (λ it. ⟦<FailingPrompter as Prompter>⟧.faults it ≡ 0) }
+        ensures schedule { IfOk result (λ it. ⟦<FailingPrompter as Prompter>⟧.schedule it ≡ Some (record { made = 0; listed = failing })) }
+        ensures quiet { failing ≡ [] → IfOk result (λ it. ⟦<FailingPrompter as Prompter>⟧.quiet it) }
+    {
+        Ok(FailingPrompter {
+            script: ScriptPrompter::new(alloc, answers)?,
+            failures: Failures::new(failing),
+        })
+    }
+}
+
+impl Prompter for FailingPrompter {
+    ghost use Rattle.std.specs.Prelude.{Some, false};
+
+    ghost told = { λ it. Some it.script.asks };
+
+    ghost answers = { λ it. Some (answer_in it.script.answers) };
+
+    ghost faults = { λ it. it.counts.faults };
+
+    ghost sticks = { false };
+
+    ghost schedule = { λ it. Some it.counts.schedule };
+
+    ghost quiet = { λ it. it.counts.schedule.listed ≡ [] };
+
+    fn ask(&mut self, space: &Space, ordinal: u32) -> Asked {
+        if self.failures.next_fails() {
+            return Asked::Failed;
+        }
+        self.script.ask(space, ordinal)
+    }
+
+    fn faults(&self) -> u64 {
+        self.failures.faults()
+    }
+}

@@ -1,0 +1,4 @@
+use Rattle.nonce_words.proofs.words.NonceWords.split.Given as goal
+
+abbrev pub ghosts-split_by : goal.ghosts-split_by
+ghosts-split_by a = record { amount = a.quota }

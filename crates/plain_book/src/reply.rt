@@ -1,0 +1,271 @@
+//! The reply to each call, and the nonce that its entry takes out.
+
+ghost use Rattle.std.specs.Prelude.{◌≡◌, ◌+◌, ◌^◌, ◌<◌, reverse, length};
+ghost use Rattle.std.specs.List.{list_any};
+ghost use Rattle.auth_events.specs.Told.{is_pending};
+ghost use Rattle.auth_events.specs.Book as Book;
+ghost use Rattle.auth_events.specs.Past as Past;
+
+use crate::find::{
+    evicted, first_given, has_url_identity, is_allowed_origin, is_negotiate, live, next_gift,
+    nonce_of, target_of,
+};
+use crate::paths::space_by_path;
+use crate::scan;
+use auth_events::{BookReply, Call, Entry, Gift, Names};
+use spaces::{Roster, Target};
+
+/// Whether `Url` was answered to the request.
+pub fn was_url_told(entries: &[Entry], request: u32) -> bool
+    ensures { result ≡ Book.was_url_told (reverse entries.now) request }
+{
+    let mut found = false;
+    for entry in entries {
+        if entry.request == request && matches!(entry.reply, BookReply::Url { .. }) {
+            found = true;
+        }
+    }
+    found
+}
+
+/// Whether `Default` was answered to the request for the space.
+pub fn was_default_told(entries: &[Entry], request: u32, space: u32) -> bool
+    ensures { result ≡ Book.was_default_told (reverse entries.now) request space }
+{
+    let mut found = false;
+    for entry in entries {
+        if entry.request == request
+            && matches!(entry.reply, BookReply::Default)
+            && scan::selects(entry.call, space)
+        {
+            found = true;
+        }
+    }
+    found
+}
+
+/// The reply to a `Select`.
+pub fn select(
+    roster: &Roster,
+    names: &Names,
+    entries: &[Entry],
+    request: u32,
+    space: u32,
+) -> BookReply
+    requires { length entries.now + 1 < 2 ^ 32 }
+    ensures { result ≡ Book.select_answer (Book.is_rival names.now space) (reverse entries.now) space (Book.choice roster.now names.now (reverse entries.now) request space) }
+{
+    if matches!(target_of(names, space), Target::Server)
+        && has_url_identity(roster, request)
+        && !was_url_told(entries, request)
+    {
+        return BookReply::Url {
+            gift: next_gift(entries, space),
+            evicted: evicted(names, entries, space),
+        };
+    }
+    if let Some(gift) = scan::current(entries, space) {
+        return BookReply::Cached { gift };
+    }
+    if is_negotiate(names, space)
+        && is_allowed_origin(roster, names, space)
+        && !was_default_told(entries, request, space)
+    {
+        return BookReply::Default;
+    }
+    match scan::open_lead(entries, space) {
+        Some(entry) => BookReply::Follow {
+            prompt: scan::prompt_of(entry.reply),
+        },
+        None => BookReply::Lead {
+            prompt: scan::leads(entries) + 1,
+            ordinal: scan::leads_of(entries, space) + 1,
+        },
+    }
+}
+
+/// `done` where the space holds the gift.
+pub fn kept_or(entries: &[Entry], gift: Gift, done: BookReply) -> BookReply
+    ensures { result ≡ Book.kept_or (reverse entries.now) gift done }
+{
+    match scan::current(entries, gift.space) {
+        Some(held) if held == gift => done,
+        Some(held) => BookReply::Kept {
+            ordinal: held.ordinal,
+        },
+        None => BookReply::Kept { ordinal: 0 },
+    }
+}
+
+pub fn space_of_prompt(entries: &[Entry], prompt: u32) -> u32
+    ensures { result ≡ Book.space_of_prompt (reverse entries.now) prompt }
+{
+    match scan::lead(entries, prompt) {
+        Some(entry) => match entry.call {
+            Call::Select { space, .. } => space,
+            _ => 0,
+        },
+        None => 0,
+    }
+}
+
+/// The reply to an `Answer`.
+pub fn answer(names: &Names, entries: &[Entry], prompt: u32, text: u32) -> BookReply
+    requires { length entries.now + 1 < 2 ^ 32 }
+    ensures { result ≡ Book.given_answer (Book.is_rival names.now (Book.space_of_prompt (reverse entries.now) prompt)) (reverse entries.now) (Book.space_of_prompt (reverse entries.now) prompt) text }
+{
+    if text == 0 {
+        return BookReply::Cancelled;
+    }
+    let space = space_of_prompt(entries, prompt);
+    BookReply::Given {
+        gift: next_gift(entries, space),
+        evicted: evicted(names, entries, space),
+    }
+}
+
+/// Whether the space is live and its terms have the nonce.
+fn holds_nonce(names: &Names, entries: &[Entry], nonce: u32, space: u32) -> bool
+    ensures { result ≡ Book.holds_nonce names.now (reverse entries.now) nonce space }
+{
+    let terms = scan::terms(entries, space);
+    live(entries, space) && terms != 0 && nonce_of(names, terms) == nonce
+}
+
+/// Whether a live space that had the nonce before hasn't it afterwards.
+fn is_left(names: &Names, before: &[Entry], afterwards: &[Entry], nonce: u32, space: u32) -> bool
+    ensures { result ≡ Book.is_left names.now (reverse before.now) (reverse afterwards.now) nonce space }
+{
+    holds_nonce(names, before, nonce, space) && !holds_nonce(names, afterwards, nonce, space)
+}
+
+/// Whether the nonce is left by a space.
+fn leaves(names: &Names, before: &[Entry], afterwards: &[Entry], nonce: u32) -> bool
+    ensures { result ≡ list_any (Book.is_left names.now (reverse before.now) (reverse afterwards.now) nonce) (Past.spaces_given (reverse before.now)) }
+{
+    let mut found = false;
+    for entry in before {
+        if let Some(space) = first_given(entry) {
+            if is_left(names, before, afterwards, nonce, space) {
+                found = true;
+            }
+        }
+    }
+    found
+}
+
+/// How many entries have taken the nonce out.
+#[tactic(auto, using(crate::proofs::Backward::epoch_more))]
+pub fn epoch(names: &Names, entries: &[Entry], nonce: u32) -> u32
+    requires { length entries.now < 2 ^ 32 }
+    ensures { result ≡ Book.epoch names.now (reverse entries.now) nonce }
+{
+    let mut count = 0;
+    for at in 0..entries.len() {
+        if leaves(names, &entries[..at], &entries[..at + 1], nonce) {
+            count += 1;
+        }
+    }
+    count
+}
+
+/// The nonce that the last entry takes out of a live space, or 0.
+pub fn nonce_left(names: &Names, before: &[Entry], afterwards: &[Entry]) -> u32
+    ensures { result ≡ Book.nonce_left names.now (reverse before.now) (reverse afterwards.now) }
+{
+    let mut found = None;
+    for entry in before {
+        if let Some(space) = first_given(entry) {
+            let nonce = nonce_of(names, scan::terms(before, space));
+            if is_left(names, before, afterwards, nonce, space) {
+                found = Some(space);
+            }
+        }
+    }
+    match found {
+        Some(space) => nonce_of(names, scan::terms(before, space)),
+        None => 0,
+    }
+}
+
+pub fn is_pending(reply: BookReply) -> bool
+    ensures { result ≡ is_pending reply }
+{
+    matches!(reply, BookReply::Pending)
+}
+
+/// The reply to a `Preempt`.
+fn preempt(
+    roster: &Roster,
+    names: &Names,
+    entries: &[Entry],
+    request: u32,
+    target: Target,
+) -> BookReply
+    requires { length entries.now < 2 ^ 32 }
+    ensures { result ≡ Book.preempt_answer names.now (reverse entries.now) (Book.space_by_path roster.now names.now (reverse entries.now) request target) }
+{
+    match space_by_path(roster, names, entries, request, target) {
+        Some(space) => ready(names, entries, space),
+        None => BookReply::Nothing,
+    }
+}
+
+/// The gift that the space holds, ready to be sent.
+fn ready(names: &Names, entries: &[Entry], space: u32) -> BookReply
+    requires { length entries.now < 2 ^ 32 }
+    ensures { result ≡ Book.ready names.now (reverse entries.now) space (Past.current (reverse entries.now) space) }
+{
+    match scan::current(entries, space) {
+        Some(gift) => {
+            let terms = scan::terms(entries, space);
+            BookReply::Ready {
+                gift,
+                terms,
+                epoch: epoch_of_terms(names, entries, terms),
+            }
+        }
+        None => BookReply::Nothing,
+    }
+}
+
+fn epoch_of_terms(names: &Names, entries: &[Entry], terms: u32) -> u32
+    requires { length entries.now < 2 ^ 32 }
+    ensures { result ≡ Book.epoch_of_terms names.now (reverse entries.now) terms }
+{
+    if terms == 0 {
+        0
+    } else {
+        epoch(names, entries, nonce_of(names, terms))
+    }
+}
+
+/// The reply to a call.
+pub fn reply_to(
+    roster: &Roster,
+    names: &Names,
+    entries: &[Entry],
+    request: u32,
+    call: Call,
+) -> BookReply
+    requires { length entries.now + 1 < 2 ^ 32 }
+    ensures { result ≡ Book.answer roster.now names.now (reverse entries.now) request call }
+{
+    match call {
+        Call::Begin => BookReply::Begun,
+        Call::Preempt { target } => preempt(roster, names, entries, request, target),
+        Call::Select { space, .. } => select(roster, names, entries, request, space),
+        Call::Reject { space, ordinal } => kept_or(
+            entries,
+            Gift { space, ordinal },
+            BookReply::Removed,
+        ),
+        Call::Renew { gift, .. } => kept_or(entries, gift, BookReply::Renewed),
+        Call::Answer { prompt, text, .. } => answer(names, entries, prompt, text),
+        Call::Lose { loss, .. } => BookReply::Lost { loss },
+        Call::Take { prompt } => scan::end(entries, prompt),
+        Call::Note { gift } => kept_or(entries, gift, BookReply::Noted),
+        Call::End => BookReply::Ended,
+        Call::Draw { .. } => BookReply::Pending,
+    }
+}

@@ -1,0 +1,36 @@
+use Rattle.std.proofs.Common.{refl, ◌≡◌, ◌+◌, ◌<◌, ◌≤◌, ◌∙◌, length, sym, inl, inr, arith, length-drop, ap, drop, take}
+use Rattle.session_text.specs.Cuts.{lines}
+use Rattle.session_text.specs.Readings.{after_text, resume, start}
+use Rattle.session_text.proofs.SessionLemmas.{lines_step, stops, goes_on, ends, ends_well, ends_badly, some_left, none_left}
+use Rattle.session_text.proofs.session.read_session.Goals as goal
+
+pub returns-in-Err : goal.returns-in-Err
+returns-in-Err c =
+    let some = some_left c.lines.rest.now c.is_empty.result c.is_empty.ensures c.lines-test.true in
+    let cut = lines_step c.first_len-n.result c.lines.rest.now c.first_len-n.ensures.value c.first_len-n.ensures.within some in
+    elim c.in-Err.ensures [
+      | inl err ↦ inl (stops c.lines.number c.lines.reading (take c.first_len-n.result c.lines.rest.now) c.lines.rest.now c.args.text.now
+          (lines (drop (c.first_len-n.result + 1) c.lines.rest.now)) c.in-Err.fault cut
+          (ap (after_text c.lines.number c.lines.reading) (sym c.front_of.ensures) ∙ err) c.lines.invariant.0)
+      | inr free ↦ inr free
+    ]
+
+pub lines-preserved : goal.lines-preserved
+lines-preserved c =
+    let some = some_left c.lines.rest.now c.is_empty.result c.is_empty.ensures c.lines-test.true in
+    let cut = lines_step c.first_len-n.result c.lines.rest.now c.first_len-n.ensures.value c.first_len-n.ensures.within some in
+    let next = goes_on c.lines.number c.lines.reading c.in-Ok.next (take c.first_len-n.result c.lines.rest.now) c.lines.rest.now c.args.text.now
+    (lines (drop (c.first_len-n.result + 1) c.lines.rest.now)) cut
+    (ap (after_text c.lines.number c.lines.reading) (sym c.front_of.ensures) ∙ c.in-Ok.ensures) c.lines.invariant.0 in
+    rw c.behind-rest.ensures (next, omega (arith, length-drop (c.first_len-n.result + 1) c.lines.rest.now, some))
+
+pub returns-then-reading : goal.returns-then-reading
+returns-then-reading c =
+    let none = none_left c.lines.rest.now c.is_empty.result c.is_empty.ensures c.lines-test.false in
+    rw c.finished.ensures
+    (ends_well c.lines.reading c.args.text.now c.lines.number (ends c.lines.number c.lines.reading c.lines.rest.now c.args.text.now none c.lines.invariant.0) c.if-reading.true)
+
+pub returns : goal.returns
+returns c =
+    let none = none_left c.lines.rest.now c.is_empty.result c.is_empty.ensures c.lines-test.false in
+    inl (ends_badly c.lines.reading c.args.text.now c.lines.number (ends c.lines.number c.lines.reading c.lines.rest.now c.args.text.now none c.lines.invariant.0) c.if-reading.false)

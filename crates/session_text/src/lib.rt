@@ -1,0 +1,17 @@
+//! The session text, by which a user says what to fetch, and the words that it is written in.
+#![tactic(auto)]
+
+mod counts;
+mod cut;
+mod first_path;
+mod line;
+mod session;
+#[cfg(test)]
+mod tests;
+mod values;
+mod word;
+
+pub use counts::counts_of;
+pub use first_path::first_path_leaves;
+pub use session::{Session, SessionFault, What, read_session};
+pub use word::{read_word, word_law, write_word};

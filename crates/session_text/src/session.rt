@@ -1,0 +1,236 @@
+//! The session: its lines are read once, in order, and each is judged by those before it.
+
+ghost use Rattle.std.specs.Prelude.{◌≡◌, ◌≤◌, ◌++◌, ◌∷◌, [], length, IfOk};
+ghost use Rattle.auth_text.specs.Gives.{GivesBy};
+ghost use Rattle.session_text.specs.Readings as spec;
+ghost use Rattle.session_text.specs.Sessions.{session};
+
+use crate::cut::{behind, first_len, front_of};
+use crate::line::{Line, LineFault, read_line};
+use auth_text::{Items, NoMemory};
+use link_trait::{Answers, Links, Steps};
+use spaces::{Origins, Requests, Roster};
+use std::alloc::Global;
+
+/// What there may be too much of.
+#[derive(Clone, Copy, Debug, PartialEq, Eq)]
+pub enum What {
+    /// Bytes of the text: at most 4,194,304.
+    Bytes,
+    /// Requests: at most 2,048.
+    Requests,
+    /// Workers: at most 16.
+    Workers,
+}
+
+/// Why a text is no session: what its first line at fault, counted from 1, is at fault by.
+#[derive(Clone, Copy, Debug, PartialEq, Eq)]
+pub enum SessionFault {
+    /// The line has none of the forms, or may not stand there.
+    BadLine { line: u32 },
+    /// The line is the 2,049th request, or asks for more than 16 workers. The number is 2,049, or
+    /// that of the workers.
+    TooMany { what: What, number: u32 },
+    NoMemory,
+}
+
+/// What a user asks for.
+#[derive(Debug, Drop)]
+pub struct Session {
+    /// How many workers serve the requests: 1 to 16.
+    pub workers: u32,
+    /// The requests, and the origins for which the default identity is allowed.
+    pub roster: Roster,
+    /// What the prompts are answered with.
+    pub answers: Answers,
+    /// For each request the recorded streams of its links.
+    pub links: Links,
+    /// For each request the recorded steps of its provider of tokens.
+    pub steps: Steps,
+}
+
+/// What the lines read so far say.
+#[derive(Drop)]
+struct Reading {
+    begun: bool,
+    workers: Option<u32>,
+    roster: Roster,
+    answers: Answers,
+    links: Links,
+    steps: Steps,
+}
+
+fn fault_in(number: u32, reading: &Reading, line: &Line) -> Option<SessionFault>
+    ensures { result ≡ spec.fault_in number reading.now line.now }
+{
+    let bad = Some(SessionFault::BadLine { line: number });
+    match line {
+        Line::Passed => None,
+        Line::Header => {
+            if reading.begun {
+                return bad;
+            }
+            None
+        }
+        Line::Workers(n) => {
+            if !reading.begun {
+                return bad;
+            }
+            if *n > 16 {
+                return Some(SessionFault::TooMany {
+                    what: What::Workers,
+                    number: *n,
+                });
+            }
+            if *n == 0 || reading.workers.is_some() {
+                return bad;
+            }
+            None
+        }
+        Line::Request(_) => {
+            if !reading.begun {
+                return bad;
+            }
+            if reading.roster.requests.len() < 2048 {
+                return None;
+            }
+            Some(SessionFault::TooMany {
+                what: What::Requests,
+                number: 2049,
+            })
+        }
+        Line::Link(_) => {
+            if reading.roster.requests.len() == 0 {
+                return bad;
+            }
+            None
+        }
+        Line::Token(_) => {
+            if reading.roster.requests.len() == 0 {
+                return bad;
+            }
+            None
+        }
+        Line::Default(_) => {
+            if reading.begun {
+                return None;
+            }
+            bad
+        }
+        Line::Answer(_, _) => {
+            if reading.begun {
+                return None;
+            }
+            bad
+        }
+    }
+}
+
+fn pushed<T: Drop>(items: Items<T>, item: T) -> Result<Items<T>, NoMemory>
+    ensures { IfOk result (λ more. more ≡ items ++ item ∷ []) }
+{
+    let mut items = items;
+    items.push(item)?;
+    Ok(items)
+}
+
+fn in_last<T: Drop>(groups: Items<Items<T>>, item: T) -> Result<Items<Items<T>>, NoMemory>
+    ensures { IfOk result (λ more. more ≡ spec.in_last groups item) }
+{
+    let mut groups = groups;
+    match groups.pop() {
+        None => Ok(groups),
+        Some(last) => pushed(groups, pushed(last, item)?),
+    }
+}
+
+fn with_line(alloc: Global, reading: Reading, line: Line) -> Result<Reading, NoMemory>
+    ensures { IfOk result (λ next. next ≡ spec.with_line reading line) }
+{
+    let mut reading = reading;
+    match line {
+        Line::Passed => return Ok(reading),
+        Line::Header => {}
+        Line::Workers(n) => reading.workers = Some(reading.workers.unwrap_or(n)),
+        Line::Default(origin) => reading.roster.allowed.push(origin)?,
+        Line::Request(request) => {
+            reading.roster.requests.push(request)?;
+            reading.links.push(Items::new(alloc))?;
+            reading.steps.push(Items::new(alloc))?;
+        }
+        Line::Link(bytes) => reading.links = in_last(reading.links, bytes)?,
+        Line::Token(step) => reading.steps = in_last(reading.steps, step)?,
+        Line::Answer(space, gift) => reading.answers.push((space, gift))?,
+    }
+    reading.begun = true;
+    Ok(reading)
+}
+
+fn after_text(
+    alloc: Global,
+    number: u32,
+    reading: Reading,
+    text: &[u8],
+) -> Result<Reading, SessionFault>
+    ensures { GivesBy SessionFault.NoMemory (λ r. r) result (spec.after_text number reading text.now) }
+{
+    let line = match read_line(alloc, text) {
+        Ok(line) => line,
+        Err(LineFault::Bad) => return Err(SessionFault::BadLine { line: number }),
+        Err(LineFault::NoMemory) => return Err(SessionFault::NoMemory),
+    };
+    if let Some(fault) = fault_in(number, &reading, &line) {
+        return Err(fault);
+    }
+    match with_line(alloc, reading, line) {
+        Ok(reading) => Ok(reading),
+        Err(_) => Err(SessionFault::NoMemory),
+    }
+}
+
+fn finished(reading: Reading) -> Session
+    ensures { result ≡ spec.finished reading }
+{
+    Session {
+        workers: reading.workers.unwrap_or(1),
+        roster: reading.roster,
+        answers: reading.answers,
+        links: reading.links,
+        steps: reading.steps,
+    }
+}
+
+/// Reads a session. The first line at fault decides: `TooMany` where it is the 2,049th request or
+/// asks for more than 16 workers, else `BadLine`. A text without any line that says something is at
+/// fault behind its last line.
+pub fn read_session(alloc: Global, text: &[u8]) -> Result<Session, SessionFault>
+    requires { length text.now ≤ 4194304 }
+    ensures { GivesBy SessionFault.NoMemory (λ s. s) result (session text.now) }
+{
+    let mut reading = Reading {
+        begun: false,
+        workers: None,
+        roster: Roster {
+            requests: Requests::new(alloc),
+            allowed: Origins::new(alloc),
+        },
+        answers: Answers::new(alloc),
+        links: Items::new(alloc),
+        steps: Items::new(alloc),
+    };
+    let mut number: u32 = 1;
+    let mut rest = text;
+    'lines: while !rest.is_empty() {
+        let n = first_len(rest, b'\n');
+        match after_text(alloc, number, reading, front_of(rest, n)) {
+            Ok(next) => reading = next,
+            Err(fault) => return Err(fault),
+        }
+        number += 1;
+        rest = behind(rest, n);
+    }
+    if reading.begun {
+        return Ok(finished(reading));
+    }
+    Err(SessionFault::BadLine { line: number })
+}

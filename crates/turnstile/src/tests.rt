@@ -1,0 +1,146 @@
+//! A list of notes behind a turnstile: turns of one thread, and of two threads that run side by side.
+//! What a run shows beside the proofs: that a turn comes, that memory suffices, and that both threads get on.
+ghost use Rattle.std.specs.Prelude.{◌≡◌, ◌+◌, ◌++◌, ◌∷◌, [], ◌<◌, ◌≤◌, ◌^◌, length, vec_len};
+ghost use Rattle.turnstile.specs.Passes.{IsOf, IsNewPass, AreNewPasses};
+
+use super::*;
+use std::alloc::AllocError;
+use std::process::Abort;
+use std::sync::Wait;
+use std::test::Fail;
+use std::thread::join;
+
+// Pairs of a pass's number and a value, under a label that no turn changes.
+#[derive(Drop)]
+struct Notes {
+    label: u32,
+    list: Vec<(u32, u32)>,
+    ghost short: { vec_len list < 2 ^ 32 },
+}
+
+impl Told for Notes {
+    type Item = (u32, u32);
+
+    type Fixed = u32;
+
+    ghost items = { λ notes. notes.list.items };
+
+    ghost by = { λ note. note.0 };
+
+    ghost fixed = { λ notes. notes.label };
+
+    fn length(&self) -> u32 {
+        self.list.len() as u32
+    }
+}
+
+// The notes with one more.
+fn with_note(rt: &impl Abort, notes: Notes, note: (u32, u32)) -> Notes
+    ensures list { result.list.items ≡ notes.list.items ++ note ∷ [] }
+    ensures label { result.label ≡ notes.label }
+{
+    let Notes { label, mut list } = notes;
+    assert!(rt; list.len() < 5000);
+    list.push(note)
+        .map_err(AllocError::from)
+        .expect(rt, "memory");
+    Notes { label, list }
+}
+
+// The last pass of a new turnstile.
+fn last_pass(lock: &Turnstile<Notes>, passes: &mut Passes<Notes>) -> Pass<Notes>
+    requires some { 0 < length passes.old.list }
+    requires new { AreNewPasses lock.now passes.old.list }
+    ensures pass { IsNewPass lock.now (length passes.old.list) result }
+    ensures rest { AreNewPasses lock.now passes.new.list }
+    ensures len { length passes.new.list + 1 ≡ length passes.old.list }
+    ensures room { (passes.new.room ≡ passes.old.room) × (length passes.old.list ≤ passes.new.room) }
+{
+    let Some(last) = passes.pop() else {
+        unreachable!()
+    };
+    last
+}
+
+// A thousand turns, each of which adds one note.
+fn take_turns<R: Wait + Abort>(
+    rt: &R,
+    lock: &Turnstile<Notes>,
+    mut pass: Pass<Notes>,
+    number: u32,
+) -> Pass<Notes>
+    requires { IsOf lock.now pass × (pass.number ≡ number) }
+    ensures { IsOf lock.now result × (result.number ≡ number) }
+{
+    for value in 0..1000 {
+        let (notes, inside) = lock.enter(rt, pass);
+        let notes = with_note(rt, notes, (number, value));
+        pass = lock.leave(inside, notes);
+    }
+    pass
+}
+
+// How many notes have the number, if their values count up from 0.
+fn counted_up(notes: &Notes, number: u32) -> Option<u32> {
+    let mut next = 0u32;
+    for (by, value) in notes.list.iter() {
+        if *by == number {
+            if *value != next {
+                return None;
+            }
+            next = next.checked_add(1)?;
+        }
+    }
+    Some(next)
+}
+
+#[test]
+fn two_threads_take_a_thousand_turns_each(rt: HostRuntime) -> Result<(), Fail> {
+    let list = Vec::with_capacity(rt.alloc(), 2000)?;
+    let notes = Notes { label: 7, list };
+    let Ok((lock, mut passes)) = Turnstile::new(rt.alloc(), notes, 2) else {
+        return Err(AllocError.into());
+    };
+    let second = last_pass(&lock, &mut passes);
+    let first = last_pass(&lock, &mut passes);
+    let (host, shared) = (&rt, &lock);
+    let (first, second) = join(
+        &rt,
+        move || take_turns(host, shared, first, 1),
+        move || take_turns(host, shared, second, 2),
+    );
+    let Ok(()) = passes.push(first) else {
+        unreachable!()
+    };
+    let Ok(()) = passes.push(second) else {
+        unreachable!()
+    };
+    let notes = lock.close(passes);
+    assert!(rt; notes.list.len() == 2000 && notes.label == 7);
+    for number in [1, 2] {
+        assert!(rt; counted_up(&notes, number) == Some(1000), "pass {number}");
+    }
+    Ok(())
+}
+
+#[test]
+fn a_pass_comes_back_in_another_list(rt: HostRuntime) -> Result<(), Fail> {
+    let list = Vec::with_capacity(rt.alloc(), 2)?;
+    let notes = Notes { label: 3, list };
+    let Ok((lock, mut passes)) = Turnstile::new(rt.alloc(), notes, 1) else {
+        return Err(AllocError.into());
+    };
+    let pass = last_pass(&lock, &mut passes);
+    let (notes, inside) = lock.enter(&rt, pass);
+    let notes = with_note(&rt, notes, (1, 5));
+    let (notes, inside) = lock.enter(&rt, lock.leave(inside, notes));
+    let pass = lock.leave(inside, notes);
+    let mut back = Passes::new(rt.alloc());
+    back.push(pass)
+        .map_err(AllocError::from)
+        .expect(&rt, "memory");
+    assert!(rt; back.len() == 1 && back.get(0).is_some() && back.get(1).is_none());
+    let notes = lock.close(back);
+    assert!(rt; notes.label == 3 && counted_up(&notes, 1).is_none() && notes.length() == 1);
+    Ok(())
+}
