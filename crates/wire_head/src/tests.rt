@@ -393,23 +393,23 @@ fn bodies_at_the_limit(rt: HostRuntime) -> Result<(), Fail> {
     let length: &[u8] = b"HTTP/1.1 200 OK\r\nContent-Length: 1048576\r\n\r\n";
     let too_long = Err(WireFault::BodyTooLong);
     let table: [(&[u8], usize, &[u8], Result<Seen, WireFault>); 8] = [
-        (length, 1048576, b"x", whole(200, true, 1048576, 1048620)),
-        (length, 1048575, b"", Err(WireFault::Cut)),
+        (length, 131072, b"x", whole(200, true, 1048576, 1048620)),
+        (length, 131071, b"aaaaaaa", Err(WireFault::Cut)),
         (
             b"HTTP/1.1 200 OK\r\n\r\n",
-            1048576,
+            131072,
             b"",
             whole(200, false, 1048576, 1048595),
         ),
-        (b"HTTP/1.1 200 OK\r\n\r\n", 1048577, b"", too_long),
+        (b"HTTP/1.1 200 OK\r\n\r\n", 131072, b"a", too_long),
         // byte 1,048,577 of a chunked body: right, wrong, and not there
-        (chunk, 1048568, b"\r\n", too_long),
-        (chunk, 1048568, b"\rx", Err(WireFault::BadFraming)),
-        (chunk, 1048568, b"\r", Err(WireFault::Cut)),
-        (chunk, 1048568, b"\n0", too_long),
+        (chunk, 131071, b"\r\n", too_long),
+        (chunk, 131071, b"\rx", Err(WireFault::BadFraming)),
+        (chunk, 131071, b"\r", Err(WireFault::Cut)),
+        (chunk, 131071, b"\n0", too_long),
     ];
     for (front, times, back, want) in table.iter() {
-        let text = long(rt.alloc(), *front, *times, b"a", *back).map_err(|_| "memory")?;
+        let text = long(rt.alloc(), *front, *times, b"aaaaaaaa", *back).map_err(|_| "memory")?;
         let same = is_read_in_blocks(rt.alloc(), text.as_slice(), *want).map_err(|_| "memory")?;
         assert!(rt; same, "{} {}", times, back.escape_ascii());
     }
