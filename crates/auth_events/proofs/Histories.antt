@@ -43,14 +43,14 @@ terms_for realm = record { algorithm = Md5; said = false; realm = realm ∷ []; 
 abbrev somebody : Login
 somebody = record { user = 117 ∷ []; password = 112 ∷ [] }
 
-abbrev row9_roster : Roster
-row9_roster = record { requests = request_of 65 ∷ request_of 65 ∷ []; allowed = [] }
+abbrev old_gift_roster : Roster
+old_gift_roster = record { requests = request_of 65 ∷ request_of 65 ∷ []; allowed = [] }
 
-abbrev row9_names : Tables
-row9_names = record { spaces = basic_space 65 ∷ []; terms = []; nonces = []; texts = somebody ∷ somebody ∷ [] }
+abbrev old_gift_names : Tables
+old_gift_names = record { spaces = basic_space 65 ∷ []; terms = []; nonces = []; texts = somebody ∷ somebody ∷ [] }
 
-abbrev row9 : List Entry
-row9 =
+abbrev old_gift : List Entry
+old_gift =
     (record { caller = 1; request = 1; call = Begin; reply = Begun })
     ∷ (record { caller = 1; request = 1; call = (Preempt Server); reply = Nothing })
     ∷ (record { caller = 2; request = 2; call = Begin; reply = Begun })
@@ -64,17 +64,17 @@ row9 =
     ∷ (record { caller = 2; request = 2; call = (Reject 1 1); reply = (Kept 2) })
     ∷ (record { caller = 2; request = 2; call = (Select 1 0); reply = (Cached (record { space = 1; ordinal = 2 })) }) ∷ []
 
-pub row9_is_legal : IsLegal row9_roster row9_names row9
-row9_is_legal = ((((((((((((tt, (refl, refl, refl)), (refl, refl, refl)), (refl, refl, refl)), (refl, refl, refl)), (refl, refl, refl)), (refl, refl, refl)), (refl, refl, refl)), (refl, refl, refl)), (refl, refl, refl)), (refl, refl, refl)), (refl, refl, refl)), (refl, refl, refl))
+pub old_gift_is_legal : IsLegal old_gift_roster old_gift_names old_gift
+old_gift_is_legal = ((((((((((((tt, (refl, refl, refl)), (refl, refl, refl)), (refl, refl, refl)), (refl, refl, refl)), (refl, refl, refl)), (refl, refl, refl)), (refl, refl, refl)), (refl, refl, refl)), (refl, refl, refl)), (refl, refl, refl)), (refl, refl, refl)), (refl, refl, refl))
 
-abbrev row14_roster : Roster
-row14_roster = record { requests = request_of 65 ∷ request_of 65 ∷ request_of 65 ∷ []; allowed = [] }
+abbrev shared_prompt_roster : Roster
+shared_prompt_roster = record { requests = request_of 65 ∷ request_of 65 ∷ request_of 65 ∷ []; allowed = [] }
 
-abbrev row14_names : Tables
-row14_names = record { spaces = basic_space 65 ∷ []; terms = []; nonces = []; texts = [] }
+abbrev shared_prompt_names : Tables
+shared_prompt_names = record { spaces = basic_space 65 ∷ []; terms = []; nonces = []; texts = [] }
 
-abbrev row14 : List Entry
-row14 =
+abbrev shared_prompt : List Entry
+shared_prompt =
     (record { caller = 1; request = 1; call = Begin; reply = Begun })
     ∷ (record { caller = 1; request = 1; call = (Preempt Server); reply = Nothing })
     ∷ (record { caller = 2; request = 2; call = Begin; reply = Begun })
@@ -88,17 +88,17 @@ row14 =
     ∷ (record { caller = 3; request = 3; call = (Take 1); reply = Cancelled })
     ∷ (record { caller = 2; request = 2; call = (Take 1); reply = Cancelled }) ∷ []
 
-pub row14_is_legal : IsLegal row14_roster row14_names row14
-row14_is_legal = ((((((((((((tt, (refl, refl, refl)), (refl, refl, refl)), (refl, refl, refl)), (refl, refl, refl)), (refl, refl, refl)), (refl, refl, refl)), (refl, refl, refl)), (refl, refl, refl)), (refl, refl, refl)), (refl, refl, refl)), (refl, refl, refl)), (refl, refl, refl))
+pub shared_prompt_is_legal : IsLegal shared_prompt_roster shared_prompt_names shared_prompt
+shared_prompt_is_legal = ((((((((((((tt, (refl, refl, refl)), (refl, refl, refl)), (refl, refl, refl)), (refl, refl, refl)), (refl, refl, refl)), (refl, refl, refl)), (refl, refl, refl)), (refl, refl, refl)), (refl, refl, refl)), (refl, refl, refl)), (refl, refl, refl)), (refl, refl, refl))
 
-abbrev row14_lost_roster : Roster
-row14_lost_roster = record { requests = request_of 65 ∷ request_of 65 ∷ request_of 65 ∷ []; allowed = [] }
+abbrev lost_prompt_roster : Roster
+lost_prompt_roster = record { requests = request_of 65 ∷ request_of 65 ∷ request_of 65 ∷ []; allowed = [] }
 
-abbrev row14_lost_names : Tables
-row14_lost_names = record { spaces = basic_space 65 ∷ []; terms = []; nonces = []; texts = [] }
+abbrev lost_prompt_names : Tables
+lost_prompt_names = record { spaces = basic_space 65 ∷ []; terms = []; nonces = []; texts = [] }
 
-abbrev row14_lost : List Entry
-row14_lost =
+abbrev lost_prompt : List Entry
+lost_prompt =
     (record { caller = 1; request = 1; call = Begin; reply = Begun })
     ∷ (record { caller = 1; request = 1; call = (Preempt Server); reply = Nothing })
     ∷ (record { caller = 2; request = 2; call = Begin; reply = Begun })
@@ -112,17 +112,17 @@ row14_lost =
     ∷ (record { caller = 3; request = 3; call = (Take 1); reply = (Lost (Fault 5)) })
     ∷ (record { caller = 2; request = 2; call = (Take 1); reply = (Lost (Fault 5)) }) ∷ []
 
-pub row14_lost_is_legal : IsLegal row14_lost_roster row14_lost_names row14_lost
-row14_lost_is_legal = ((((((((((((tt, (refl, refl, refl)), (refl, refl, refl)), (refl, refl, refl)), (refl, refl, refl)), (refl, refl, refl)), (refl, refl, refl)), (refl, refl, refl)), (refl, refl, refl)), (refl, refl, refl)), (refl, refl, refl)), (refl, refl, refl)), (refl, refl, refl))
+pub lost_prompt_is_legal : IsLegal lost_prompt_roster lost_prompt_names lost_prompt
+lost_prompt_is_legal = ((((((((((((tt, (refl, refl, refl)), (refl, refl, refl)), (refl, refl, refl)), (refl, refl, refl)), (refl, refl, refl)), (refl, refl, refl)), (refl, refl, refl)), (refl, refl, refl)), (refl, refl, refl)), (refl, refl, refl)), (refl, refl, refl)), (refl, refl, refl))
 
-abbrev row13_roster : Roster
-row13_roster = record { requests = request_of 65 ∷ request_of 66 ∷ request_of 67 ∷ request_of 68 ∷ request_of 69 ∷ request_of 70 ∷ request_of 71 ∷ request_of 72 ∷ request_of 73 ∷ request_of 74 ∷ request_of 75 ∷ request_of 76 ∷ request_of 77 ∷ request_of 78 ∷ request_of 79 ∷ request_of 80 ∷ request_of 81 ∷ request_of 82 ∷ request_of 83 ∷ request_of 84 ∷ request_of 85 ∷ request_of 86 ∷ request_of 87 ∷ request_of 88 ∷ request_of 89 ∷ request_of 90 ∷ request_of 91 ∷ request_of 92 ∷ request_of 93 ∷ request_of 94 ∷ request_of 95 ∷ request_of 96 ∷ request_of 65 ∷ request_of 97 ∷ request_of 66 ∷ []; allowed = [] }
+abbrev full_cache_roster : Roster
+full_cache_roster = record { requests = request_of 65 ∷ request_of 66 ∷ request_of 67 ∷ request_of 68 ∷ request_of 69 ∷ request_of 70 ∷ request_of 71 ∷ request_of 72 ∷ request_of 73 ∷ request_of 74 ∷ request_of 75 ∷ request_of 76 ∷ request_of 77 ∷ request_of 78 ∷ request_of 79 ∷ request_of 80 ∷ request_of 81 ∷ request_of 82 ∷ request_of 83 ∷ request_of 84 ∷ request_of 85 ∷ request_of 86 ∷ request_of 87 ∷ request_of 88 ∷ request_of 89 ∷ request_of 90 ∷ request_of 91 ∷ request_of 92 ∷ request_of 93 ∷ request_of 94 ∷ request_of 95 ∷ request_of 96 ∷ request_of 65 ∷ request_of 97 ∷ request_of 66 ∷ []; allowed = [] }
 
-abbrev row13_names : Tables
-row13_names = record { spaces = basic_space 65 ∷ basic_space 66 ∷ basic_space 67 ∷ basic_space 68 ∷ basic_space 69 ∷ basic_space 70 ∷ basic_space 71 ∷ basic_space 72 ∷ basic_space 73 ∷ basic_space 74 ∷ basic_space 75 ∷ basic_space 76 ∷ basic_space 77 ∷ basic_space 78 ∷ basic_space 79 ∷ basic_space 80 ∷ basic_space 81 ∷ basic_space 82 ∷ basic_space 83 ∷ basic_space 84 ∷ basic_space 85 ∷ basic_space 86 ∷ basic_space 87 ∷ basic_space 88 ∷ basic_space 89 ∷ basic_space 90 ∷ basic_space 91 ∷ basic_space 92 ∷ basic_space 93 ∷ basic_space 94 ∷ basic_space 95 ∷ basic_space 96 ∷ basic_space 97 ∷ []; terms = []; nonces = []; texts = somebody ∷ somebody ∷ somebody ∷ somebody ∷ somebody ∷ somebody ∷ somebody ∷ somebody ∷ somebody ∷ somebody ∷ somebody ∷ somebody ∷ somebody ∷ somebody ∷ somebody ∷ somebody ∷ somebody ∷ somebody ∷ somebody ∷ somebody ∷ somebody ∷ somebody ∷ somebody ∷ somebody ∷ somebody ∷ somebody ∷ somebody ∷ somebody ∷ somebody ∷ somebody ∷ somebody ∷ somebody ∷ somebody ∷ [] }
+abbrev full_cache_names : Tables
+full_cache_names = record { spaces = basic_space 65 ∷ basic_space 66 ∷ basic_space 67 ∷ basic_space 68 ∷ basic_space 69 ∷ basic_space 70 ∷ basic_space 71 ∷ basic_space 72 ∷ basic_space 73 ∷ basic_space 74 ∷ basic_space 75 ∷ basic_space 76 ∷ basic_space 77 ∷ basic_space 78 ∷ basic_space 79 ∷ basic_space 80 ∷ basic_space 81 ∷ basic_space 82 ∷ basic_space 83 ∷ basic_space 84 ∷ basic_space 85 ∷ basic_space 86 ∷ basic_space 87 ∷ basic_space 88 ∷ basic_space 89 ∷ basic_space 90 ∷ basic_space 91 ∷ basic_space 92 ∷ basic_space 93 ∷ basic_space 94 ∷ basic_space 95 ∷ basic_space 96 ∷ basic_space 97 ∷ []; terms = []; nonces = []; texts = somebody ∷ somebody ∷ somebody ∷ somebody ∷ somebody ∷ somebody ∷ somebody ∷ somebody ∷ somebody ∷ somebody ∷ somebody ∷ somebody ∷ somebody ∷ somebody ∷ somebody ∷ somebody ∷ somebody ∷ somebody ∷ somebody ∷ somebody ∷ somebody ∷ somebody ∷ somebody ∷ somebody ∷ somebody ∷ somebody ∷ somebody ∷ somebody ∷ somebody ∷ somebody ∷ somebody ∷ somebody ∷ somebody ∷ [] }
 
-abbrev row13 : List Entry
-row13 =
+abbrev full_cache : List Entry
+full_cache =
     (record { caller = 1; request = 1; call = Begin; reply = Begun })
     ∷ (record { caller = 1; request = 1; call = (Preempt Server); reply = Nothing })
     ∷ (record { caller = 1; request = 1; call = (Select 1 0); reply = (Lead 1 1) })
@@ -262,17 +262,17 @@ row13 =
     ∷ (record { caller = 35; request = 35; call = (Preempt Server); reply = Nothing })
     ∷ (record { caller = 35; request = 35; call = (Select 2 0); reply = (Lead 34 2) }) ∷ []
 
-pub row13_is_legal : IsLegal row13_roster row13_names row13
-row13_is_legal = ((((((((((((((((((((((((((((((((((((((((((((((((((((((((((((((((((((((((((((((((((((((((((((((((((((((((((((((((((((((((((((((((((((((((((tt, (refl, refl, refl)), (refl, refl, refl)), (refl, refl, refl)), (refl, refl, refl)), (refl, refl, refl)), (refl, refl, refl)), (refl, refl, refl)), (refl, refl, refl)), (refl, refl, refl)), (refl, refl, refl)), (refl, refl, refl)), (refl, refl, refl)), (refl, refl, refl)), (refl, refl, refl)), (refl, refl, refl)), (refl, refl, refl)), (refl, refl, refl)), (refl, refl, refl)), (refl, refl, refl)), (refl, refl, refl)), (refl, refl, refl)), (refl, refl, refl)), (refl, refl, refl)), (refl, refl, refl)), (refl, refl, refl)), (refl, refl, refl)), (refl, refl, refl)), (refl, refl, refl)), (refl, refl, refl)), (refl, refl, refl)), (refl, refl, refl)), (refl, refl, refl)), (refl, refl, refl)), (refl, refl, refl)), (refl, refl, refl)), (refl, refl, refl)), (refl, refl, refl)), (refl, refl, refl)), (refl, refl, refl)), (refl, refl, refl)), (refl, refl, refl)), (refl, refl, refl)), (refl, refl, refl)), (refl, refl, refl)), (refl, refl, refl)), (refl, refl, refl)), (refl, refl, refl)), (refl, refl, refl)), (refl, refl, refl)), (refl, refl, refl)), (refl, refl, refl)), (refl, refl, refl)), (refl, refl, refl)), (refl, refl, refl)), (refl, refl, refl)), (refl, refl, refl)), (refl, refl, refl)), (refl, refl, refl)), (refl, refl, refl)), (refl, refl, refl)), (refl, refl, refl)), (refl, refl, refl)), (refl, refl, refl)), (refl, refl, refl)), (refl, refl, refl)), (refl, refl, refl)), (refl, refl, refl)), (refl, refl, refl)), (refl, refl, refl)), (refl, refl, refl)), (refl, refl, refl)), (refl, refl, refl)), (refl, refl, refl)), (refl, refl, refl)), (refl, refl, refl)), (refl, refl, refl)), (refl, refl, refl)), (refl, refl, refl)), (refl, refl, refl)), (refl, refl, refl)), (refl, refl, refl)), (refl, refl, refl)), (refl, refl, refl)), (refl, refl, refl)), (refl, refl, refl)), (refl, refl, refl)), (refl, refl, refl)), (refl, refl, refl)), (refl, refl, refl)), (refl, refl, refl)), (refl, refl, refl)), (refl, refl, refl)), (refl, refl, refl)), (refl, refl, refl)), (refl, refl, refl)), (refl, refl, refl)), (refl, refl, refl)), (refl, refl, refl)), (refl, refl, refl)), (refl, refl, refl)), (refl, refl, refl)), (refl, refl, refl)), (refl, refl, refl)), (refl, refl, refl)), (refl, refl, refl)), (refl, refl, refl)), (refl, refl, refl)), (refl, refl, refl)), (refl, refl, refl)), (refl, refl, refl)), (refl, refl, refl)), (refl, refl, refl)), (refl, refl, refl)), (refl, refl, refl)), (refl, refl, refl)), (refl, refl, refl)), (refl, refl, refl)), (refl, refl, refl)), (refl, refl, refl)), (refl, refl, refl)), (refl, refl, refl)), (refl, refl, refl)), (refl, refl, refl)), (refl, refl, refl)), (refl, refl, refl)), (refl, refl, refl)), (refl, refl, refl)), (refl, refl, refl)), (refl, refl, refl)), (refl, refl, refl)), (refl, refl, refl)), (refl, refl, refl)), (refl, refl, refl)), (refl, refl, refl)), (refl, refl, refl)), (refl, refl, refl)), (refl, refl, refl)), (refl, refl, refl))
+pub full_cache_is_legal : IsLegal full_cache_roster full_cache_names full_cache
+full_cache_is_legal = ((((((((((((((((((((((((((((((((((((((((((((((((((((((((((((((((((((((((((((((((((((((((((((((((((((((((((((((((((((((((((((((((((((((((((tt, (refl, refl, refl)), (refl, refl, refl)), (refl, refl, refl)), (refl, refl, refl)), (refl, refl, refl)), (refl, refl, refl)), (refl, refl, refl)), (refl, refl, refl)), (refl, refl, refl)), (refl, refl, refl)), (refl, refl, refl)), (refl, refl, refl)), (refl, refl, refl)), (refl, refl, refl)), (refl, refl, refl)), (refl, refl, refl)), (refl, refl, refl)), (refl, refl, refl)), (refl, refl, refl)), (refl, refl, refl)), (refl, refl, refl)), (refl, refl, refl)), (refl, refl, refl)), (refl, refl, refl)), (refl, refl, refl)), (refl, refl, refl)), (refl, refl, refl)), (refl, refl, refl)), (refl, refl, refl)), (refl, refl, refl)), (refl, refl, refl)), (refl, refl, refl)), (refl, refl, refl)), (refl, refl, refl)), (refl, refl, refl)), (refl, refl, refl)), (refl, refl, refl)), (refl, refl, refl)), (refl, refl, refl)), (refl, refl, refl)), (refl, refl, refl)), (refl, refl, refl)), (refl, refl, refl)), (refl, refl, refl)), (refl, refl, refl)), (refl, refl, refl)), (refl, refl, refl)), (refl, refl, refl)), (refl, refl, refl)), (refl, refl, refl)), (refl, refl, refl)), (refl, refl, refl)), (refl, refl, refl)), (refl, refl, refl)), (refl, refl, refl)), (refl, refl, refl)), (refl, refl, refl)), (refl, refl, refl)), (refl, refl, refl)), (refl, refl, refl)), (refl, refl, refl)), (refl, refl, refl)), (refl, refl, refl)), (refl, refl, refl)), (refl, refl, refl)), (refl, refl, refl)), (refl, refl, refl)), (refl, refl, refl)), (refl, refl, refl)), (refl, refl, refl)), (refl, refl, refl)), (refl, refl, refl)), (refl, refl, refl)), (refl, refl, refl)), (refl, refl, refl)), (refl, refl, refl)), (refl, refl, refl)), (refl, refl, refl)), (refl, refl, refl)), (refl, refl, refl)), (refl, refl, refl)), (refl, refl, refl)), (refl, refl, refl)), (refl, refl, refl)), (refl, refl, refl)), (refl, refl, refl)), (refl, refl, refl)), (refl, refl, refl)), (refl, refl, refl)), (refl, refl, refl)), (refl, refl, refl)), (refl, refl, refl)), (refl, refl, refl)), (refl, refl, refl)), (refl, refl, refl)), (refl, refl, refl)), (refl, refl, refl)), (refl, refl, refl)), (refl, refl, refl)), (refl, refl, refl)), (refl, refl, refl)), (refl, refl, refl)), (refl, refl, refl)), (refl, refl, refl)), (refl, refl, refl)), (refl, refl, refl)), (refl, refl, refl)), (refl, refl, refl)), (refl, refl, refl)), (refl, refl, refl)), (refl, refl, refl)), (refl, refl, refl)), (refl, refl, refl)), (refl, refl, refl)), (refl, refl, refl)), (refl, refl, refl)), (refl, refl, refl)), (refl, refl, refl)), (refl, refl, refl)), (refl, refl, refl)), (refl, refl, refl)), (refl, refl, refl)), (refl, refl, refl)), (refl, refl, refl)), (refl, refl, refl)), (refl, refl, refl)), (refl, refl, refl)), (refl, refl, refl)), (refl, refl, refl)), (refl, refl, refl)), (refl, refl, refl)), (refl, refl, refl)), (refl, refl, refl)), (refl, refl, refl)), (refl, refl, refl)), (refl, refl, refl)), (refl, refl, refl)), (refl, refl, refl))
 
-abbrev row8_roster : Roster
-row8_roster = record { requests = path_request (47 ∷ 100 ∷ 111 ∷ 99 ∷ 115 ∷ 47 ∷ 97 ∷ []) ∷ path_request (47 ∷ 100 ∷ 111 ∷ 99 ∷ 115 ∷ 47 ∷ 98 ∷ 47 ∷ 99 ∷ []) ∷ path_request (47 ∷ 100 ∷ 111 ∷ 99 ∷ 115 ∷ 120 ∷ []) ∷ path_request (47 ∷ []) ∷ []; allowed = [] }
+abbrev directories_roster : Roster
+directories_roster = record { requests = path_request (47 ∷ 100 ∷ 111 ∷ 99 ∷ 115 ∷ 47 ∷ 97 ∷ []) ∷ path_request (47 ∷ 100 ∷ 111 ∷ 99 ∷ 115 ∷ 47 ∷ 98 ∷ 47 ∷ 99 ∷ []) ∷ path_request (47 ∷ 100 ∷ 111 ∷ 99 ∷ 115 ∷ 120 ∷ []) ∷ path_request (47 ∷ []) ∷ []; allowed = [] }
 
-abbrev row8_names : Tables
-row8_names = record { spaces = basic_space 65 ∷ []; terms = []; nonces = []; texts = somebody ∷ [] }
+abbrev directories_names : Tables
+directories_names = record { spaces = basic_space 65 ∷ []; terms = []; nonces = []; texts = somebody ∷ [] }
 
-abbrev row8 : List Entry
-row8 =
+abbrev directories : List Entry
+directories =
     (record { caller = 1; request = 1; call = Begin; reply = Begun })
     ∷ (record { caller = 1; request = 1; call = (Preempt Server); reply = Nothing })
     ∷ (record { caller = 1; request = 1; call = (Select 1 0); reply = (Lead 1 1) })
@@ -286,17 +286,17 @@ row8 =
     ∷ (record { caller = 4; request = 4; call = Begin; reply = Begun })
     ∷ (record { caller = 4; request = 4; call = (Preempt Server); reply = Nothing }) ∷ []
 
-pub row8_is_legal : IsLegal row8_roster row8_names row8
-row8_is_legal = ((((((((((((tt, (refl, refl, refl)), (refl, refl, refl)), (refl, refl, refl)), (refl, refl, refl)), (refl, refl, refl)), (refl, refl, refl)), (refl, refl, refl)), (refl, refl, refl)), (refl, refl, refl)), (refl, refl, refl)), (refl, refl, refl)), (refl, refl, refl))
+pub directories_is_legal : IsLegal directories_roster directories_names directories
+directories_is_legal = ((((((((((((tt, (refl, refl, refl)), (refl, refl, refl)), (refl, refl, refl)), (refl, refl, refl)), (refl, refl, refl)), (refl, refl, refl)), (refl, refl, refl)), (refl, refl, refl)), (refl, refl, refl)), (refl, refl, refl)), (refl, refl, refl)), (refl, refl, refl))
 
-abbrev row12_roster : Roster
-row12_roster = record { requests = request_of 65 ∷ []; allowed = [] }
+abbrev counts_roster : Roster
+counts_roster = record { requests = request_of 65 ∷ []; allowed = [] }
 
-abbrev row12_names : Tables
-row12_names = record { spaces = digest_space 1 ∷ digest_space 2 ∷ []; terms = record { space = 1; terms = terms_for 1; nonce = 1 } ∷ record { space = 2; terms = terms_for 2; nonce = 1 } ∷ []; nonces = record { site = (digest_space 1).site; text = 110 ∷ [] } ∷ []; texts = somebody ∷ somebody ∷ somebody ∷ somebody ∷ [] }
+abbrev counts_names : Tables
+counts_names = record { spaces = digest_space 1 ∷ digest_space 2 ∷ []; terms = record { space = 1; terms = terms_for 1; nonce = 1 } ∷ record { space = 2; terms = terms_for 2; nonce = 1 } ∷ []; nonces = record { site = (digest_space 1).site; text = 110 ∷ [] } ∷ []; texts = somebody ∷ somebody ∷ somebody ∷ somebody ∷ [] }
 
-abbrev row12 : List Entry
-row12 =
+abbrev counts : List Entry
+counts =
     (record { caller = 1; request = 1; call = Begin; reply = Begun })
     ∷ (record { caller = 1; request = 1; call = (Preempt Server); reply = Nothing })
     ∷ (record { caller = 1; request = 1; call = (Select 1 1); reply = (Lead 1 1) })
@@ -311,24 +311,24 @@ row12 =
     ∷ (record { caller = 1; request = 1; call = (Select 2 2); reply = (Lead 4 1) })
     ∷ (record { caller = 1; request = 1; call = (Answer 4 4 2); reply = (Given (record { space = 2; ordinal = 1 }) 0) }) ∷ []
 
-pub row12_is_legal : IsLegal row12_roster row12_names row12
-row12_is_legal = (((((((((((((tt, (refl, refl, refl)), (refl, refl, refl)), (refl, refl, refl)), (refl, refl, refl)), (refl, refl, refl)), (refl, refl, refl)), (refl, refl, refl)), (refl, refl, refl)), (refl, refl, refl)), (refl, refl, refl)), (refl, refl, refl)), (refl, refl, refl)), (refl, refl, refl))
+pub counts_is_legal : IsLegal counts_roster counts_names counts
+counts_is_legal = (((((((((((((tt, (refl, refl, refl)), (refl, refl, refl)), (refl, refl, refl)), (refl, refl, refl)), (refl, refl, refl)), (refl, refl, refl)), (refl, refl, refl)), (refl, refl, refl)), (refl, refl, refl)), (refl, refl, refl)), (refl, refl, refl)), (refl, refl, refl)), (refl, refl, refl))
 
 -- the draws of the request, behind its calls
-abbrev row12_traces : List (List Step_told)
-row12_traces = (Did_call ∷ Did_call ∷ Did_call ∷ Did_call ∷ Did_draw 1 1 0 ∷ Did_call ∷ Did_call ∷ Did_call ∷ Did_draw 1 2 1 ∷ Did_call ∷ Did_call ∷ Did_call ∷ Did_draw 1 3 2 ∷ Did_call ∷ Did_call ∷ Did_call ∷ Did_draw 1 4 3 ∷ []) ∷ []
+abbrev counts_traces : List (List Step_told)
+counts_traces = (Did_call ∷ Did_call ∷ Did_call ∷ Did_call ∷ Did_draw 1 1 0 ∷ Did_call ∷ Did_call ∷ Did_call ∷ Did_draw 1 2 1 ∷ Did_call ∷ Did_call ∷ Did_call ∷ Did_draw 1 3 2 ∷ Did_call ∷ Did_call ∷ Did_call ∷ Did_draw 1 4 3 ∷ []) ∷ []
 
-pub row12_is_fresh : IsTrue (fresh row12_names (merge row12 row12_traces))
-row12_is_fresh = refl
+pub counts_is_fresh : IsTrue (fresh counts_names (merge counts counts_traces))
+counts_is_fresh = refl
 
 -- a count that begins anew is not fresh
-pub row12_anew : fresh row12_names (merge row12 ((Did_call ∷ Did_call ∷ Did_call ∷ Did_call ∷ Did_draw 1 1 0 ∷ Did_call ∷ Did_call ∷ Did_call ∷ Did_draw 1 1 1 ∷ []) ∷ [])) ≡ false
-row12_anew = refl
+pub counts_anew : fresh counts_names (merge counts ((Did_call ∷ Did_call ∷ Did_call ∷ Did_call ∷ Did_draw 1 1 0 ∷ Did_call ∷ Did_call ∷ Did_call ∷ Did_draw 1 1 1 ∷ []) ∷ [])) ≡ false
+counts_anew = refl
 
 -- nor is an epoch that is too low
-pub row12_stale : fresh row12_names (merge row12 ((Did_call ∷ Did_call ∷ Did_call ∷ Did_call ∷ Did_call ∷ Did_draw 1 1 0 ∷ []) ∷ [])) ≡ false
-row12_stale = refl
+pub counts_stale : fresh counts_names (merge counts ((Did_call ∷ Did_call ∷ Did_call ∷ Did_call ∷ Did_call ∷ Did_draw 1 1 0 ∷ []) ∷ [])) ≡ false
+counts_stale = refl
 
 -- the draws stand behind the entries
-pub row12_length : length (merge row12 row12_traces) ≡ 17
-row12_length = refl
+pub counts_length : length (merge counts counts_traces) ≡ 17
+counts_length = refl
