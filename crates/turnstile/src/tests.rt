@@ -4,48 +4,12 @@ ghost use Rattle.std.specs.Prelude.{◌≡◌, ◌+◌, ◌++◌, ◌∷◌, [],
 ghost use Rattle.turnstile.specs.Passes.{IsOf, IsNewPass, AreNewPasses};
 
 use super::*;
+use crate::notes::{Notes, add_note};
 use std::alloc::AllocError;
 use std::process::Abort;
 use std::sync::Wait;
 use std::test::Fail;
 use std::thread::join;
-
-// Pairs of a pass's number and a value, under a label that no turn changes.
-#[derive(Drop)]
-struct Notes {
-    label: u32,
-    list: Vec<(u32, u32)>,
-    ghost short: { vec_len list < 2 ^ 32 },
-}
-
-impl Told for Notes {
-    type Item = (u32, u32);
-
-    type Fixed = u32;
-
-    ghost items = { λ notes. notes.list.items };
-
-    ghost by = { λ note. note.0 };
-
-    ghost fixed = { λ notes. notes.label };
-
-    fn length(&self) -> u32 {
-        self.list.len() as u32
-    }
-}
-
-// The notes with one more.
-fn with_note(rt: &impl Abort, notes: Notes, note: (u32, u32)) -> Notes
-    ensures list { result.list.items ≡ notes.list.items ++ note ∷ [] }
-    ensures label { result.label ≡ notes.label }
-{
-    let Notes { label, mut list } = notes;
-    assert!(rt; list.len() < 5000);
-    list.push(note)
-        .map_err(AllocError::from)
-        .expect(rt, "memory");
-    Notes { label, list }
-}
 
 // The last pass of a new turnstile.
 fn last_pass(lock: &Turnstile<Notes>, passes: &mut Passes<Notes>) -> Pass<Notes>
@@ -73,9 +37,9 @@ fn take_turns<R: Wait + Abort>(
     ensures { IsOf lock.now result × (result.number ≡ number) }
 {
     for value in 0..1000 {
-        let (notes, inside) = lock.enter(rt, pass);
-        let notes = with_note(rt, notes, (number, value));
-        pass = lock.leave(inside, notes);
+        let (back, added) = add_note(rt, lock, pass, (number, value));
+        assert!(rt; added);
+        pass = back;
     }
     pass
 }
@@ -97,7 +61,7 @@ fn counted_up(notes: &Notes, number: u32) -> Option<u32> {
 #[test]
 fn two_threads_take_a_thousand_turns_each(rt: HostRuntime) -> Result<(), Fail> {
     let list = Vec::with_capacity(rt.alloc(), 2000)?;
-    let notes = Notes { label: 7, list };
+    let notes = Notes::new(7, list);
     let Ok((lock, mut passes)) = Turnstile::new(rt.alloc(), notes, 2) else {
         return Err(AllocError.into());
     };
@@ -126,14 +90,15 @@ fn two_threads_take_a_thousand_turns_each(rt: HostRuntime) -> Result<(), Fail> {
 #[test]
 fn a_pass_comes_back_in_another_list(rt: HostRuntime) -> Result<(), Fail> {
     let list = Vec::with_capacity(rt.alloc(), 2)?;
-    let notes = Notes { label: 3, list };
+    let notes = Notes::new(3, list);
     let Ok((lock, mut passes)) = Turnstile::new(rt.alloc(), notes, 1) else {
         return Err(AllocError.into());
     };
     let pass = last_pass(&lock, &mut passes);
+    let (pass, added) = add_note(&rt, &lock, pass, (1, 0));
+    assert!(rt; added);
     let (notes, inside) = lock.enter(&rt, pass);
-    let notes = with_note(&rt, notes, (1, 5));
-    let (notes, inside) = lock.enter(&rt, lock.leave(inside, notes));
+    assert!(rt; notes.label == 3 && notes.length() == 1);
     let pass = lock.leave(inside, notes);
     let mut back = Passes::new(rt.alloc());
     back.push(pass)
@@ -141,6 +106,6 @@ fn a_pass_comes_back_in_another_list(rt: HostRuntime) -> Result<(), Fail> {
         .expect(&rt, "memory");
     assert!(rt; back.len() == 1 && back.get(0).is_some() && back.get(1).is_none());
     let notes = lock.close(back);
-    assert!(rt; notes.label == 3 && counted_up(&notes, 1).is_none() && notes.length() == 1);
+    assert!(rt; notes.label == 3 && counted_up(&notes, 1) == Some(1));
     Ok(())
 }

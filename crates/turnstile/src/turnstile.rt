@@ -5,6 +5,7 @@ ghost use mathlib.Core.List.{IsPrefix};
 ghost use Rattle.turnstile.specs.Totals.{Each};
 ghost use Rattle.turnstile.specs.Passes.{IsIn, IsMade, added};
 ghost use Rattle.turnstile.specs.Names.{id_of};
+ghost use Rattle.turnstile.specs.Turns.{resting};
 
 use crate::history::{HistoryRule, HomeIn, HomeOut, Joins, Looks, News, Past, Publishes};
 use crate::opening::{NotMade, deal, enclose, found};
@@ -171,7 +172,7 @@ impl<S: Told> Turnstile<S> {
     {
         let Inside {
             mut past,
-            mut turn,
+            turn,
             taken,
         } = inside;
         let more = u64::from(state.length() - taken);
@@ -184,10 +185,42 @@ impl<S: Told> Turnstile<S> {
             state,
             home,
         };
+        let turn = self.put_back(turn, deposit);
+        let turn = self.end_turn(turn);
+        Pass { past, turn }
+    }
+
+    // Fills the slot, which the seat holds.
+    fn put_back(
+        &self,
+        mut turn: Seat<Option<Deposit<S>>, Turn<S::Fixed>>,
+        deposit: Deposit<S>,
+    ) -> Seat<Option<Deposit<S>>, Turn<S::Fixed>>
+        requires table { turn.table_id ≡ self.now.turns }
+        requires empty { turn.me.1 ≡ (0, None) ∷ [] }
+        requires deposit { (deposit.home.table_id ≡ id_of turn.me.0.history.table) × (deposit.home.me.0.made ≡ turn.me.0.history.passes) × (turn.me.0.fixed ≡ Some (S.fixed deposit.state)) }
+        ensures table { result.table_id ≡ turn.table_id }
+        ensures view { result.me.0 ≡ turn.me.0 }
+        ensures full { (a : _) × (result.me.1 ≡ (0, Some a) ∷ []) × (a.home.table_id ≡ id_of result.me.0.history.table) × (a.home.me.0.made ≡ result.me.0.history.passes) × (result.me.0.fixed ≡ Some (S.fixed a.state)) }
+    {
         let old = self.turns.shared.exchange(&mut turn, 0, Some(deposit));
         let None = old else { unreachable!() };
+        turn
+    }
+
+    // Serves the next ticket. The slot, which the seat holds, is full again.
+    fn end_turn(
+        &self,
+        mut turn: Seat<Option<Deposit<S>>, Turn<S::Fixed>>,
+    ) -> Seat<Option<Deposit<S>>, Turn<S::Fixed>>
+        requires table { turn.table_id ≡ self.now.turns }
+        requires holds { (0 < turn.me.0.parts) × (0 < turn.me.0.holds) }
+        requires full { (a : _) × (turn.me.1 ≡ (0, Some a) ∷ []) × (a.home.table_id ≡ id_of turn.me.0.history.table) × (a.home.me.0.made ≡ turn.me.0.history.passes) × (turn.me.0.fixed ≡ Some (S.fixed a.state)) }
+        ensures table { result.table_id ≡ turn.table_id }
+        ensures view { result.me ≡ (resting turn.me.0, []) }
+    {
         self.turns.shared.fetch_add::<Advances>(&mut turn, 1, 1);
-        Pass { past, turn }
+        turn
     }
 
     // Joins all passes into one.

@@ -2,8 +2,6 @@ use Rattle.std.proofs.Common.{rules, arith, ap, ◌∙◌, sym, subst, ◌≡◌
 use Rattle.std.proofs.lemmas.List.{length-append}
 use Rattle.turnstile.specs.Totals.{Each}
 use Rattle.turnstile.proofs.HistoryRule.{publishes_keep, home_out}
-use Rattle.turnstile.specs.Names.{id_of}
-use Rattle.turnstile.proofs.TurnRule.{advances_at}
 use Rattle.turnstile.proofs.turnstile.Turnstile.leave_by.Goals as goal
 
 pub fetch_add-requires : goal.fetch_add-requires
@@ -27,16 +25,11 @@ split_seat-home-requires g c = (
   home_out _ _ _ (ap (λ m. m.0.home) c.fetch_add.ensures.2 ∙ c.inside.invariant.0.1),
 )
 
-pub fetch_add-requires-2 : goal.fetch_add-requires-2
-fetch_add-requires-2 g c =
-    let e = c.exchange-old.ensures in
+pub put_back-turn-requires-clause-deposit : goal.put_back-turn-requires-clause-deposit
+put_back-turn-requires-clause-deposit g c =
     let own = c.inside.invariant in
     let view = c.inside.view_is in (
-      e.0 ∙ (ap (λ p. p.turns) view ∙ (c.requires.turn.1 ∙ sym (ap (λ t. t.turns) c.self.view_is))),
-      search rules,
-      advances_at _ _ _ _ _ _ _ _ _ (ap (λ m. m.1) e.3) c.self.invariant.2 (let h = ap (λ m. m.0.parts) e.3 ∙ own.1.1 in omega arith) (let h = ap (λ m. m.0.holds) e.3 ∙ own.1.0 in omega arith) (
-        c.split_seat-home.ensures.3 ∙ (c.fetch_add.ensures.0 ∙ (sym own.2 ∙ sym (ap (λ m. id_of m.0.history.table) e.3))),
-        ap (λ m. m.0.made) c.split_seat-home.ensures.4 ∙ (ap (λ m. m.0.made) c.fetch_add.ensures.2 ∙ (own.3 ∙ sym (ap (λ m. m.0.history.passes) e.3))),
-        ap (λ m. m.0.fixed) e.3 ∙ (ap (λ p. p.fixed) view ∙ c.requires.fixed),
-      ),
+      c.split_seat-home.ensures.3 ∙ (c.fetch_add.ensures.0 ∙ sym own.2),
+      ap (λ m. m.0.made) c.split_seat-home.ensures.4 ∙ (ap (λ m. m.0.made) c.fetch_add.ensures.2 ∙ own.3),
+      ap (λ p. p.fixed) view ∙ c.requires.fixed,
     )
