@@ -11,6 +11,7 @@ use Rattle.link_trait.specs.declared.dialer.Traffic.{Traffic}
 use Rattle.link_trait.specs.declared.dialer.Traffic.TheVariants.{Sent, Received, Ended}
 use Rattle.link_trait.specs.declared.log.OpenLink.{OpenLink}
 use Rattle.link_trait.specs.Links.{same_link, has_link, has_dial, without_link, heard_in, heard_on}
+use Rattle.link_trait.proofs.LinkLemmas.{same_name, same_self}
 use Rattle.link_trait.specs.Recorded.{link_of, are_dialed, is_placed, are_placed, names_of, place_in, moved, closed}
 
 pub and_front : (a b : Bool) → (a && b) ≡ true → a ≡ true
@@ -36,12 +37,6 @@ pub all_kept : {X : Type 0} (p q : X → Bool) (xs : List X)
 all_kept p q [] each all = refl
 all_kept p q (x ∷ xs) each all =
     both (q x) _ (each x (and_front (p x) _ all)) (all_kept p q xs each (and_rest (p x) _ all))
-
-pub same_name : (a b : LinkName) → same_link a b ≡ true → a ≡ b
-same_name a b same = grind (arith, common_steps)
-
-pub same_self : (a : LinkName) → same_link a a ≡ true
-same_self a = grind (arith, common_steps)
 
 -- a closed link
 
