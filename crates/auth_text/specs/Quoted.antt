@@ -16,6 +16,7 @@ closing false (b ∷ bytes) =
     if b == 92 then behind [] 1 (closing true bytes)
     else (if b == 34 then Some ([], 1) else behind (b ∷ []) 1 (closing false bytes))
 
+-- what was found behind the opening quote, with that quote counted
 abbrev pub if_closed : Option (List ℕ × ℕ) → Result (List ℕ × ℕ) QuoteFault
 if_closed (Some x) = Ok (x.0, 1 + x.1)
 if_closed None = Err Unclosed
@@ -25,6 +26,7 @@ abbrev pub quoted : List ℕ → Result (List ℕ × ℕ) QuoteFault
 quoted [] = Err NotQuoted
 quoted (b ∷ bytes) = if b == 34 then if_closed (closing false bytes) else Err NotQuoted
 
+-- a byte of a value, with a backslash before it where it is a quote or a backslash
 abbrev pub escaped_byte : ℕ → List ℕ
 escaped_byte b = if b == 34 || b == 92 then 92 ∷ b ∷ [] else b ∷ []
 

@@ -16,6 +16,7 @@ scheme_text = codes "Basic "
 abbrev pub basic : List ℕ → List ℕ → List ℕ
 basic user password = scheme_text ++ encode_of standard (login_text user password)
 
+-- ":"
 abbrev pub is_colon : ℕ → Bool
 is_colon b = b == 58
 
@@ -29,6 +30,7 @@ abbrev pub parts_around : List ℕ → Option ℕ → Result Login BasicFault
 parts_around text None = Err NoColon
 parts_around text (Some colon) = parts_at text colon (position_from is_control 0 text)
 
+-- the parts of what was decoded
 abbrev pub decoded_parts : Result (List ℕ) DecodeError → Result Login BasicFault
 decoded_parts (Err e) = Err NotBase64
 decoded_parts (Ok text) = parts_around text (position_from is_colon 0 text)

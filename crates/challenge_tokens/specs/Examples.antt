@@ -5,35 +5,41 @@ use Rattle.challenge_tokens.specs.declared.challenge.FieldRead.{FieldRead}
 use Rattle.challenge_tokens.specs.declared.challenge.Body.TheVariants.{Bare, Token68, Params}
 use Rattle.challenge_tokens.specs.Pieces.{field_read}
 
-abbrev pub named : List ℕ → List ℕ → Param
-named name value = record { name = name; value = value }
+-- a parameter
+abbrev pub pair : List ℕ → List ℕ → Param
+pair name value = record { name = name; value = value }
 
+-- three challenges, no bad piece
 abbrev pub three : FieldRead
 three = record {
   challenges = record { scheme = codes "negotiate"; body = Bare }
-      ∷ record { scheme = codes "basic"; body = Params (named (codes "realm") (codes "a, b") ∷ []) }
-      ∷ record { scheme = codes "digest"; body = Params (named (codes "nonce") (codes "x") ∷ []) } ∷ [];
+      ∷ record { scheme = codes "basic"; body = Params (pair (codes "realm") (codes "a, b") ∷ []) }
+      ∷ record { scheme = codes "digest"; body = Params (pair (codes "nonce") (codes "x") ∷ []) } ∷ [];
   bad_at = None;
 }
 
+-- of a realm given twice the first
 abbrev pub twice : FieldRead
 twice = record {
-  challenges = record { scheme = codes "basic"; body = Params (named (codes "realm") (97 ∷ 34 ∷ 98 ∷ []) ∷ []) } ∷ [];
+  challenges = record { scheme = codes "basic"; body = Params (pair (codes "realm") (97 ∷ 34 ∷ 98 ∷ []) ∷ []) } ∷ [];
   bad_at = None;
 }
 
+-- the challenge before an unclosed quote, and the place of its piece
 abbrev pub unclosed : FieldRead
 unclosed = record {
-  challenges = record { scheme = codes "digest"; body = Params (named (codes "nonce") (codes "n") ∷ []) } ∷ [];
+  challenges = record { scheme = codes "digest"; body = Params (pair (codes "nonce") (codes "n") ∷ []) } ∷ [];
   bad_at = Some 16;
 }
 
+-- a token68, and the place of a parameter that it can't take
 abbrev pub stray : FieldRead
 stray = record {
   challenges = record { scheme = codes "negotiate"; body = Token68 (codes "YIIB==") } ∷ [];
   bad_at = Some 21;
 }
 
+-- the fields, each with what it gives
 pub record Examples : Type 0 where
   pub several : field_read (codes "Negotiate, Basic realm=\"a, b\", Digest nonce=x") ≡ three
   pub twice_given : field_read (codes "Basic realm=\"a\\\"b\", realm=c") ≡ twice

@@ -27,17 +27,21 @@ whole n (Err e) = None
 
 -- ---- blanks
 
+-- SP or HTAB
 abbrev pub is_blank : ℕ → Bool
 is_blank b = b == 32 || b == 9
 
+-- without the blanks at the front
 abbrev pub trim_start : List ℕ → List ℕ
 trim_start bytes = drop (prefix_len is_blank bytes) bytes
 
 -- ---- tokens
 
+-- how many bytes of a token stand in front
 abbrev pub token_len : List ℕ → ℕ
 token_len bytes = prefix_len is_token_byte bytes
 
+-- a token: one or more of its bytes and no other
 abbrev pub is_token : List ℕ → Bool
 is_token bytes = nat_lt 0 (length bytes) && list_all is_token_byte bytes
 
@@ -65,6 +69,7 @@ abbrev pub value_behind : List ℕ → Option (List ℕ)
 value_behind [] = None
 value_behind (b ∷ bytes) = if b == 61 then value_of (trim_start bytes) else None
 
+-- a parameter of this name, in lower case
 abbrev pub named : List ℕ → List ℕ → Param
 named name value = record { name = folded name; value = value }
 
@@ -76,10 +81,12 @@ param_of bytes =
 
 -- ---- forms
 
+-- a parameter where it is one, else another form
 abbrev pub or_param : Option Param → Form → Form
 or_param (Some p) form = Parameter p
 or_param None form = form
 
+-- a scheme with a parameter, where it is one
 abbrev pub head_param : List ℕ → Option Param → Form
 head_param scheme (Some p) = WithParam scheme p
 head_param scheme None = Bad
@@ -95,6 +102,7 @@ head_form scheme [] = Bare scheme
 head_form scheme (b ∷ bytes) =
     if b == 32 then argument_form scheme (drop (prefix_len (λ c. c == 32) bytes) bytes) else Bad
 
+-- the form of a piece
 abbrev pub form_of : List ℕ → Form
 form_of bytes =
     let n = token_len bytes in

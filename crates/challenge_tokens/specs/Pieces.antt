@@ -15,6 +15,7 @@ use Rattle.challenge_tokens.specs.Forms.{after_byte, is_blank, trim_start, form_
 
 -- ---- the cut at the commas outside quoted strings
 
+-- outside quoted strings
 abbrev pub is_outside : Quoting → Bool
 is_outside Outside = true
 is_outside Inside = false
@@ -39,20 +40,25 @@ cut q at (b ∷ bytes) =
 
 -- ---- without SP and HTAB at both ends, and with none empty
 
+-- a byte before what is kept behind it; a blank with nothing kept behind it goes
 abbrev pub keep_unless_blank : ℕ → List ℕ → List ℕ
 keep_unless_blank b [] = if is_blank b then [] else b ∷ []
 keep_unless_blank b (c ∷ bytes) = b ∷ c ∷ bytes
 
+-- without the blanks at the end
 abbrev pub trim_end : List ℕ → List ℕ
 trim_end [] = []
 trim_end (b ∷ bytes) = keep_unless_blank b (trim_end bytes)
 
+-- a piece without the blanks at both ends, and the place of its first byte
 abbrev pub trimmed : Piece → Piece
 trimmed p = record { at = p.at + prefix_len is_blank p.bytes; bytes = trim_end (trim_start p.bytes) }
 
+-- not empty
 abbrev pub is_piece : Piece → Bool
 is_piece p = nat_lt 0 (length p.bytes)
 
+-- the pieces of a text that begins at this place, trimmed, and none empty
 abbrev pub pieces_from : ℕ → List ℕ → List Piece
 pieces_from at text = filter is_piece (map trimmed (cut Outside at text))
 
@@ -61,6 +67,7 @@ pub record Formed : Type 0 where
   pub at : ℕ
   pub form : Form
 
+-- a piece as its form
 abbrev pub formed : Piece → Formed
 formed p = record { at = p.at; form = form_of p.bytes }
 
@@ -74,6 +81,7 @@ forms_from at text = map formed (pieces_from at text)
 pub data Open : Type 0 where
   none taking full : Open
 
+-- what a good piece leaves
 abbrev pub after_form : Open → Form → Open
 after_form o (Bare s) = taking
 after_form o (WithToken s t) = full
@@ -81,11 +89,13 @@ after_form o (WithParam s p) = taking
 after_form o (Parameter p) = o
 after_form o Bad = o
 
+-- a parameter can join
 abbrev pub is_taking : Open → Bool
 is_taking none = false
 is_taking taking = true
 is_taking full = false
 
+-- a piece of this form is bad: no form, or a parameter that nothing takes
 abbrev pub is_bad : Open → Form → Bool
 is_bad o (Bare s) = false
 is_bad o (WithToken s t) = false
@@ -114,17 +124,20 @@ abbrev pub distinct : List Param → List Param → List Param
 distinct kept [] = kept
 distinct kept (p ∷ ps) = distinct (join kept p) ps
 
+-- a body with more parameters; a token68 takes none
 abbrev pub extend : Body → List Param → Body
 extend body [] = body
 extend NoBody (p ∷ ps) = Params (distinct [] (p ∷ ps))
 extend (Params kept) (p ∷ ps) = Params (distinct kept (p ∷ ps))
 extend (Token68 token) (p ∷ ps) = Token68 token
 
+-- parameters can join the body
 abbrev pub takes_params : Body → Bool
 takes_params NoBody = true
 takes_params (Params kept) = true
 takes_params (Token68 token) = false
 
+-- a challenge of this scheme and these parameters
 abbrev pub begun : List ℕ → List Param → Challenge
 begun scheme ps = record { scheme = scheme; body = extend NoBody ps }
 
@@ -133,6 +146,7 @@ pub record Grouped : Type 0 where
   pub waiting : List Param
   pub challenges : List Challenge
 
+-- a piece before what is grouped: a head takes the parameters that wait, a parameter waits
 abbrev pub group : Form → Grouped → Grouped
 group (Bare s) g = record { waiting = []; challenges = begun s g.waiting ∷ g.challenges }
 group (WithToken s t) g = record { waiting = []; challenges = record { scheme = s; body = Token68 t } ∷ g.challenges }
@@ -140,6 +154,7 @@ group (WithParam s p) g = record { waiting = []; challenges = begun s (p ∷ g.w
 group (Parameter p) g = record { waiting = p ∷ g.waiting; challenges = g.challenges }
 group Bad g = g
 
+-- pieces as challenges
 abbrev pub grouped : List Formed → Grouped
 grouped [] = record { waiting = []; challenges = [] }
 grouped (p ∷ ps) = group p.form (grouped ps)

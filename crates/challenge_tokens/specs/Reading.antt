@@ -17,6 +17,7 @@ abbrev pub takes : Option Challenge → Bool
 takes None = false
 takes (Some c) = takes_params c.body
 
+-- a piece of this form is bad
 abbrev pub is_refused : Reading → Form → Bool
 is_refused r (Bare s) = false
 is_refused r (WithToken s t) = false
@@ -24,6 +25,7 @@ is_refused r (WithParam s p) = false
 is_refused r (Parameter p) = not (takes r.current)
 is_refused r Bad = true
 
+-- the challenge begun last, as a list
 abbrev pub last_of : Option Challenge → List Challenge
 last_of None = []
 last_of (Some c) = c ∷ []
@@ -32,13 +34,16 @@ last_of (Some c) = c ∷ []
 abbrev pub so_far : Reading → List Challenge
 so_far r = r.done ++ last_of r.current
 
+-- a challenge begun
 abbrev pub with_challenge : Reading → Challenge → Reading
 with_challenge r c = record { done = so_far r; current = Some c }
 
+-- a parameter joined to the challenge begun last
 abbrev pub joined : Option Challenge → Param → Option Challenge
 joined None p = None
 joined (Some c) p = Some (record { scheme = c.scheme; body = extend c.body (p ∷ []) })
 
+-- what a good piece leaves
 abbrev pub with_form : Reading → Form → Reading
 with_form r (Bare s) = with_challenge r (begun s [])
 with_form r (WithToken s t) = with_challenge r (record { scheme = s; body = Token68 t })

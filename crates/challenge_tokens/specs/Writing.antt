@@ -17,6 +17,7 @@ token68_text scheme token = scheme ++ 32 ∷ token
 abbrev pub param_text : Param → List ℕ
 param_text p = p.name ++ 61 ∷ quoted_text p.value
 
+-- a parameter behind another
 abbrev pub param_behind : Param → List ℕ
 param_behind p = codes ", " ++ param_text p
 
@@ -25,6 +26,7 @@ abbrev pub params_text : List Param → List ℕ
 params_text [] = []
 params_text (p ∷ ps) = 32 ∷ param_text p ++ flat_map param_behind ps
 
+-- what follows the scheme
 abbrev pub body_text : Body → List ℕ
 body_text Bare = []
 body_text (Token68 token) = 32 ∷ token

@@ -189,7 +189,9 @@ fn rest_of(text: &[u8], n: usize) -> &[u8]
 /// What a piece leaves.
 #[derive(Drop)]
 pub enum Next {
+    /// The reading goes on with this.
     Goes(Reading),
+    /// The piece is bad, and this was read before it.
     Refused(Reading),
 }
 

@@ -1,5 +1,5 @@
-//! What follows from the rules alone. Each law is the contract of a function with an empty body, so
-//! the check proves it for all texts.
+//! What follows from the rules alone. Each law is the contract of a function that does
+//! nothing, so the check proves it for all texts.
 
 ghost use Rattle.std.specs.Prelude.{◌≡◌, ◌∷◌, [], ℕ, List, None, IsTrue};
 ghost use Rattle.auth_text.specs.Text.{folded};

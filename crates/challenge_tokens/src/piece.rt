@@ -19,17 +19,23 @@ pub enum Quoting {
     Escaped,
 }
 
-/// What a piece is.
+/// What a piece is, with its scheme and names in lower case and its values unescaped.
 #[derive(Debug, Drop)]
 pub enum Form {
+    /// A scheme alone.
     Bare(Bytes),
+    /// A scheme and a token68.
     WithToken(Bytes, Bytes),
+    /// A scheme and its first parameter.
     WithParam(Bytes, Param),
+    /// A parameter alone.
     Parameter(Param),
+    /// None of these.
     Bad,
 }
 
 impl Quoting {
+    /// Where the next byte lies.
     pub fn after(self, b: u8) -> Quoting
         ensures { result ≡ spec.after_byte self b }
     {
@@ -55,6 +61,7 @@ impl Quoting {
     }
 }
 
+/// SP or HTAB.
 pub fn is_blank(b: u8) -> bool
     ensures { result ≡ spec.is_blank b }
 {
@@ -201,7 +208,7 @@ fn head_form(alloc: Global, scheme: Bytes, bytes: &[u8]) -> Result<Form, NoMemor
     }
 }
 
-/// What the bytes are, all of them.
+/// What a piece is: the form of all its bytes.
 pub fn form_of(alloc: Global, bytes: &[u8]) -> Result<Form, NoMemory>
     ensures { IfOk result (λ form. form ≡ spec.form_of bytes.now) }
 {
