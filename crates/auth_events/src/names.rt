@@ -142,6 +142,30 @@ impl Names {
         self.texts.len() as u32
     }
 
+    /// The spaces, from number 1.
+    pub fn spaces(&self) -> &[Space]
+        ensures spaces { result.now ≡ self.now.spaces }
+        ensures few { length result.now ≤ 131072 }
+    {
+        self.spaces.as_slice()
+    }
+
+    /// The Digest terms, from number 1.
+    pub fn all_terms(&self) -> &[TermsName]
+        ensures terms { result.now ≡ self.now.terms }
+        ensures few { length result.now ≤ 131072 }
+    {
+        self.terms.as_slice()
+    }
+
+    /// The identities that prompts gave, from number 1.
+    pub fn texts(&self) -> &[Identity]
+        ensures texts { result.now ≡ self.now.texts }
+        ensures few { length result.now ≤ 131072 }
+    {
+        self.texts.as_slice()
+    }
+
     /// The space of that number.
     pub fn space(&self, number: u32) -> Option<&Space>
         ensures { option_copied result ≡ numbered self.now.spaces number }
