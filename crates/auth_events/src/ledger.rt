@@ -86,6 +86,15 @@ impl Ledger {
         &self.names
     }
 
+    /// Its roster, its names and its journal.
+    pub fn into_parts(self) -> (Roster, Names, Journal)
+        ensures roster { result.0 ≡ self.roster }
+        ensures names { result.1 ≡ self.names }
+        ensures entries { result.2.entries ≡ self.journal.entries }
+    {
+        (self.roster, self.names, self.journal)
+    }
+
     /// The journal.
     pub fn journal(&self) -> &Journal
         ensures entries { result.now.entries ≡ self.now.journal.entries }

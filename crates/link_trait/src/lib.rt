@@ -23,7 +23,7 @@ pub use dialer::{Dial, Dialed, Dialer, Traffic, Wrote};
 pub use links::{LinkName, Links, same_link};
 pub use memory::{MemSink, MemSource};
 pub use prompts::{Ask, AskSeen, Asked, Prompter};
-pub use recorded::RecordedDialer;
+pub use recorded::{RecordedDialer, stream_in};
 pub use script_tokens::ScriptTokens;
 pub use scripts::{FailingPrompter, ScriptPrompter};
 pub use steps::{Step, StepSeen, Steps};

@@ -33,7 +33,8 @@ impl Model for RecordedDialer {
     ghost view = { λ it. record { links = it.links; log = it.log; counts = it.failures } };
 }
 
-fn stream_in(links: &Links, name: LinkName) -> &[u8]
+/// The recorded stream of a link: empty where none is recorded.
+pub fn stream_in(links: &Links, name: LinkName) -> &[u8]
     ensures { result.now ≡ stream_in links.now name }
 {
     match numbered(links, name.request) {

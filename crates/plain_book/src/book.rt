@@ -18,7 +18,7 @@ impl PlainBook {
     ghost use Rattle.std.specs.Prelude.{◌≡◌, ◌≤◌, ◌++◌, ◌∷◌, [], length, reverse, IsTrue, IfOk, if◌then◌else◌};
     ghost use Rattle.auth_events.specs.Tables.{no_names};
     ghost use Rattle.auth_events.specs.Book as Book;
-    ghost use Rattle.auth_events.specs.Told.{is_pending};
+    ghost use Rattle.auth_events.specs.Told.{is_pending, journal, names_told};
 
     /// A book with no entries and no names, which takes the journal's room at once.
     pub fn new(alloc: Global, roster: &Roster) -> Result<PlainBook, NoMemory>
@@ -27,9 +27,19 @@ impl PlainBook {
         ensures entries { IfOk result (λ book. book.ledger.journal.entries ≡ []) }
         ensures names { IfOk result (λ book. book.ledger.names ≡ no_names) }
         ensures made { IfOk result (λ book. book.ledger.made.items ≡ []) }
+        ensures told { IfOk result (λ book. ⟦<PlainBook as Controller>⟧.told book ≡ []) }
     {
         let ledger = Ledger::new(alloc, roster)?;
         Ok(PlainBook { ledger })
+    }
+
+    /// What it was opened with and what it recorded: its roster, its names and its journal.
+    pub fn into_parts(self) -> (Roster, Names, Journal)
+        ensures roster { result.0 ≡ ⟦<PlainBook as Controller>⟧.roster self }
+        ensures names { result.1 ≡ names_told (⟦<PlainBook as Controller>⟧.told self) }
+        ensures entries { result.2.entries ≡ journal (⟦<PlainBook as Controller>⟧.told self) }
+    {
+        self.ledger.into_parts()
     }
 
     /// Whether the call may be made: its conditions, decided.
