@@ -1,0 +1,4 @@
+pub mod LinkLemmas
+pub mod PromptLemmas
+pub mod ReplyLemmas
+pub mod EventLemmas

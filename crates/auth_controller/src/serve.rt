@@ -1,0 +1,366 @@
+//! One request that meets one Basic challenge, served from its first call of the book to its outcome.
+
+ghost use Rattle.std.specs.Prelude.{◌≡◌, ◌++◌, ◌∷◌, [], IsTrue, is_some, List, ℕ, IfOk, OnOk, Some, None, false};
+ghost use Rattle.std.specs.Option.{option_copied};
+ghost use Rattle.auth_text.specs.Login.{Login};
+ghost use Rattle.spaces.specs.RequestTargets.{request_target};
+ghost use Rattle.wire_head.specs.RequestHeads.{head};
+ghost use Rattle.auth_runs.specs.Runs.{is_whole};
+ghost use Rattle.auth_events.specs.declared.journal.Call.TheVariants.{Begin, Preempt, Select, Answer, Note, End};
+ghost use Rattle.auth_events.specs.declared.journal.BookReply.TheVariants.{Begun, Nothing, Lead, Given, Noted, Ended};
+ghost use Rattle.spaces.specs.declared.site.Target.TheVariants.{Server};
+ghost use Rattle.auth_controller.specs.Traces.{credentials};
+ghost use Rattle.auth_controller.specs.Challenges.{realm_field};
+ghost use Rattle.auth_controller.specs.Heard.{IsChallenge, IsChallengeReply, challenge_text, challenge_reply, ok_text, ok_reply};
+ghost use Rattle.auth_controller.specs.Links.{stream_of, heard_of, sent_of};
+ghost use Rattle.auth_controller.specs.FirstPath.{IsPlain, IsExpected, IsServed, lone_roster, server_space, first_gift, preempted, answered, ended, first_head, second_head, nth_link, answer_of, both_dialed, both_written};
+
+use crate::book_calls;
+use crate::exchange::exchange;
+use crate::replies::{realm_in, reply_in};
+use auth_events::{BookReply, Call, Controller};
+use auth_runs::{AskSeen, Event, Events, Outcome, Reply, Trace};
+use auth_text::{Bytes, Identity, Items, NoMemory};
+use basic_handler::credentials;
+use link_trait::{Asked, Dialer, LinkName, Prompter};
+use spaces::{Method, Origin, Request, Scheme, Site, Space, Target};
+use std::alloc::Global;
+use wire_head::{HeadParts, write_head};
+
+fn server_space(alloc: Global, request: &Request, realm: Bytes) -> Result<Space, NoMemory>
+    ensures { IfOk result (λ space. space ≡ server_space request.now realm) }
+{
+    let partition = request.partition.clone()?;
+    let origin = request.place.origin.clone()?;
+    let site = Site {
+        partition,
+        target: Target::Server,
+        origin,
+    };
+    Ok(Space::new(site, Scheme::Basic, realm))
+}
+
+fn head_with<'a>(
+    alloc: Global,
+    method: Method,
+    origin: &'a Origin,
+    target: &'a [u8],
+    server: Option<&'a [u8]>,
+) -> Result<Bytes, NoMemory>
+    ensures { IfOk result (λ text. text ≡ head method target.now origin.now None (option_copied server.entry) false) }
+{
+    let parts = HeadParts {
+        method,
+        target,
+        origin,
+        proxy: None,
+        server,
+        keep: false,
+    };
+    write_head(alloc, &parts)
+}
+
+fn first_head(alloc: Global, request: &Request) -> Result<Bytes, NoMemory>
+    ensures { IfOk result (λ text. text ≡ first_head request.now) }
+{
+    let target = request.place.request_target(alloc, false)?;
+    let origin = &request.place.origin;
+    let text = head_with(alloc, request.method, origin, target.as_slice(), None)?;
+    Ok(text)
+}
+
+fn second_head(alloc: Global, request: &Request, identity: &Identity) -> Result<Bytes, NoMemory>
+    ensures { IfOk result (λ text. text ≡ second_head request.now identity.now) }
+{
+    let field = credentials(alloc, identity)?;
+    let target = request.place.request_target(alloc, false)?;
+    let origin = &request.place.origin;
+    let server = Some(field.as_slice());
+    let text = head_with(alloc, request.method, origin, target.as_slice(), server)?;
+    Ok(text)
+}
+
+fn push_call(events: &mut Events, call: Call, reply: BookReply) -> Result<(), NoMemory>
+    ensures { OnOk result (events.new ≡ events.old ++ Event.Called call reply ∷ []) }
+{
+    events.push(Event::Called { call, reply })?;
+    Ok(())
+}
+
+fn push_exchange(events: &mut Events, link: u32, bytes: Bytes, reply: Reply) -> Result<(), NoMemory>
+    ensures { OnOk result (events.new ≡ events.old ++ Event.Dialed link ∷ Event.Headed link bytes ∷ Event.Replied link reply ∷ []) }
+{
+    events.push(Event::Dialed { link })?;
+    events.push(Event::Headed { link, bytes })?;
+    events.push(Event::Replied { link, reply })?;
+    Ok(())
+}
+
+/// The calls before the first head.
+fn open<B: Controller>(book: &mut B, events: &mut Events, request: &Request) -> Result<(), NoMemory>
+    requires roster { B.roster book.old ≡ lone_roster request.now }
+    requires told { B.told book.old ≡ [] }
+    ensures told { OnOk result (B.told book.new ≡ preempted) }
+    ensures roster { OnOk result (B.roster book.new ≡ lone_roster request.now) }
+    ensures events { OnOk result (events.new ≡ events.old ++ Event.Called Begin Begun ∷ Event.Called (Preempt Server) Nothing ∷ []) }
+{
+    let reply = book_calls::begin(book, request);
+    push_call(events, Call::Begin, reply)?;
+    let reply = book_calls::preempt(book, request);
+    let target = Target::Server;
+    push_call(events, Call::Preempt { target }, reply)
+}
+
+/// The choice of the challenge's space and the answer of its prompt.
+fn ask<B: Controller, P: Prompter>(
+    book: &mut B,
+    prompter: &mut P,
+    events: &mut Events,
+    request: &Request,
+    space: &Space,
+) -> Result<Identity, NoMemory>
+    requires plain { IsPlain request.now }
+    requires space { space.now ≡ server_space request.now space.now.realm }
+    requires roster { B.roster book.old ≡ lone_roster request.now }
+    requires told { B.told book.old ≡ preempted }
+    requires quiet { P.quiet prompter.old }
+    requires no_asks { P.told prompter.old ≡ Some [] }
+    requires given { IsTrue (is_some (answer_of (P.answers prompter.old) space.now 1)) }
+    ensures given { IfOk result (λ identity. answer_of (P.answers prompter.old) space.now 1 ≡ Some identity) }
+    ensures told { IfOk result (λ identity. B.told book.new ≡ answered space.now identity) }
+    ensures roster { OnOk result (B.roster book.new ≡ lone_roster request.now) }
+    ensures asks { OnOk result (P.told prompter.new ≡ Some (record { space = space.now; ordinal = 1 } ∷ [])) }
+    ensures events { OnOk result (events.new ≡ events.old ++ Event.Called (Select 1 0) (Lead 1 1) ∷ Event.AskedFor 1 AskSeen.Given ∷ Event.Called (Answer 1 1 0) (Given first_gift 0) ∷ []) }
+{
+    let number = book_calls::name_space(book, request, space)?;
+    let reply = book_calls::select(book, request, space);
+    let call = Call::Select {
+        space: number,
+        terms: 0,
+    };
+    push_call(events, call, reply)?;
+    let identity = ask_for(prompter, space)?;
+    events.push(Event::AskedFor {
+        prompt: 1,
+        given: AskSeen::Given,
+    })?;
+    let text = book_calls::name_text(book, request, space, &identity)?;
+    let reply = book_calls::answer(book, request, space, &identity);
+    let call = Call::Answer {
+        prompt: 1,
+        text,
+        terms: 0,
+    };
+    push_call(events, call, reply)?;
+    Ok(identity)
+}
+
+#[tactic(auto, using(crate::proofs::PromptLemmas::given_answer, crate::proofs::PromptLemmas::no_cancel))]
+fn ask_for<P: Prompter>(prompter: &mut P, space: &Space) -> Result<Identity, NoMemory>
+    requires quiet { P.quiet prompter.old }
+    requires no_asks { P.told prompter.old ≡ Some [] }
+    requires given { IsTrue (is_some (answer_of (P.answers prompter.old) space.now 1)) }
+    ensures given { IfOk result (λ identity. answer_of (P.answers prompter.old) space.now 1 ≡ Some identity) }
+    ensures asks { OnOk result (P.told prompter.new ≡ Some (record { space = space.now; ordinal = 1 } ∷ [])) }
+{
+    match prompter.ask(space, 1) {
+        Asked::Given(identity) => Ok(identity),
+        Asked::Cancel => unreachable!(),
+        Asked::Failed => unreachable!(),
+        Asked::NoMemory => Err(NoMemory),
+    }
+}
+
+/// The calls behind the last reply, and the outcome.
+fn close<B: Controller>(
+    book: &mut B,
+    events: &mut Events,
+    request: &Request,
+    space: &Space,
+    identity: &Identity,
+    code: u16,
+) -> Result<(), NoMemory>
+    requires space { space.now ≡ server_space request.now space.now.realm }
+    requires roster { B.roster book.old ≡ lone_roster request.now }
+    requires told { B.told book.old ≡ answered space.now identity.now }
+    ensures told { OnOk result (B.told book.new ≡ ended space.now identity.now) }
+    ensures roster { OnOk result (B.roster book.new ≡ lone_roster request.now) }
+    ensures events { OnOk result (events.new ≡ events.old ++ Event.Called (Note first_gift) Noted ∷ Event.Called End Ended ∷ Event.Ended (Outcome.Answered code) ∷ []) }
+{
+    let gift = book_calls::FIRST_GIFT;
+    let reply = book_calls::note(book, request, space, identity);
+    push_call(events, Call::Note { gift }, reply)?;
+    let reply = book_calls::end(book, request, space, identity);
+    push_call(events, Call::End, reply)?;
+    events.push(Event::Ended {
+        outcome: Outcome::Answered(code),
+    })?;
+    Ok(())
+}
+
+fn reply_or_none(alloc: Global, stream: &[u8]) -> Result<Option<Reply>, NoMemory>
+    ensures challenge { IfOk result (λ reply. (realm : List ℕ) → stream.now ≡ challenge_text realm → reply ≡ Some (challenge_reply realm)) }
+    ensures ok { IfOk result (λ reply. stream.now ≡ ok_text → reply ≡ Some ok_reply) }
+{
+    let reply = reply_in(alloc, stream)?;
+    Ok(reply)
+}
+
+/// The reply of a stream that is a challenge.
+fn challenge_in(alloc: Global, stream: &[u8]) -> Result<Reply, NoMemory>
+    requires { IsChallenge stream.now }
+    ensures { IfOk result (λ reply. (realm : List ℕ) → stream.now ≡ challenge_text realm → reply ≡ challenge_reply realm) }
+{
+    match reply_or_none(alloc, stream)? {
+        Some(reply) => Ok(reply),
+        None => unreachable!(),
+    }
+}
+
+/// The reply of a stream that is the other one.
+fn ok_in(alloc: Global, stream: &[u8]) -> Result<Reply, NoMemory>
+    requires { stream.now ≡ ok_text }
+    ensures { IfOk result (λ reply. reply ≡ ok_reply) }
+{
+    match reply_or_none(alloc, stream)? {
+        Some(reply) => Ok(reply),
+        None => unreachable!(),
+    }
+}
+
+fn realm_in_field(alloc: Global, field: &[u8]) -> Result<Option<Bytes>, NoMemory>
+    ensures { IfOk result (λ found. (realm : List ℕ) → field.now ≡ realm_field realm → found ≡ Some realm) }
+{
+    let realm = realm_in(alloc, field)?;
+    Ok(realm)
+}
+
+fn field_of(reply: &Reply) -> &[u8]
+    requires { IsChallengeReply reply.now }
+    ensures { (realm : List ℕ) → reply.now ≡ challenge_reply realm → result.now ≡ realm_field realm }
+{
+    match reply.fields.get(0) {
+        Some(field) => field.as_slice(),
+        None => unreachable!(),
+    }
+}
+
+/// The realm of a reply with one Basic challenge.
+fn realm_of(alloc: Global, reply: &Reply) -> Result<Bytes, NoMemory>
+    requires { IsChallengeReply reply.now }
+    ensures { IfOk result (λ found. (realm : List ℕ) → reply.now ≡ challenge_reply realm → found ≡ realm) }
+{
+    match realm_in_field(alloc, field_of(reply))? {
+        Some(realm) => Ok(realm),
+        None => unreachable!(),
+    }
+}
+
+/// The space of the challenge that a stream is.
+fn space_in(alloc: Global, request: &Request, stream: &[u8]) -> Result<Space, NoMemory>
+    requires { IsChallenge stream.now }
+    ensures { IfOk result (λ space. (realm : List ℕ) → stream.now ≡ challenge_text realm → space ≡ server_space request.now realm) }
+{
+    let reply = challenge_in(alloc, stream)?;
+    let realm = realm_of(alloc, &reply)?;
+    let space = server_space(alloc, request, realm)?;
+    Ok(space)
+}
+
+/// The first link: no credentials, and a challenge back.
+fn meet<D: Dialer>(
+    alloc: Global,
+    dialer: &mut D,
+    events: &mut Events,
+    request: &Request,
+) -> Result<Bytes, NoMemory>
+    requires none_open { D.opened dialer.old ≡ [] }
+    requires no_dials { D.dials dialer.old ≡ Some [] }
+    requires no_traffic { D.traffic dialer.old ≡ Some [] }
+    requires quiet { D.quiet dialer.old }
+    requires streams { IsTrue (is_some (D.streams dialer.old)) }
+    requires first { IsChallenge (stream_of (D.streams dialer.old) (nth_link 1)) }
+    ensures stream { IfOk result (λ stream. stream ≡ stream_of (D.streams dialer.old) (nth_link 1)) }
+    ensures events { IfOk result (λ stream. (realm : List ℕ) → stream ≡ challenge_text realm
+        → events.new ≡ events.old ++ Event.Dialed 1 ∷ Event.Headed 1 (first_head request.now) ∷ Event.Replied 1 (challenge_reply realm) ∷ []) }
+    ensures dials { OnOk result (D.dials dialer.new ≡ Some (record { link = nth_link 1; to = request.now.place.origin } ∷ [])) }
+    ensures written { OnOk result (sent_of (D.traffic dialer.new) ≡ record { link = nth_link 1; bytes = first_head request.now } ∷ []) }
+    ensures unheard { OnOk result (heard_of (D.traffic dialer.new) (nth_link 2) ≡ []) }
+    ensures told { OnOk result (IsTrue (is_some (D.traffic dialer.new))) }
+    ensures closed { OnOk result (D.opened dialer.new ≡ []) }
+    ensures streams { OnOk result (D.streams dialer.new ≡ D.streams dialer.old) }
+    ensures quiet { OnOk result (D.quiet dialer.new) }
+{
+    let head = first_head(alloc, request)?;
+    let name = LinkName { request: 1, nth: 1 };
+    let stream = exchange(alloc, dialer, name, &request.place.origin, head.as_slice())?;
+    let reply = challenge_in(alloc, stream.as_slice())?;
+    push_exchange(events, 1, head, reply)?;
+    Ok(stream)
+}
+
+/// The second link: the credentials, and the other reply back.
+fn send_again<D: Dialer>(
+    alloc: Global,
+    dialer: &mut D,
+    events: &mut Events,
+    request: &Request,
+    identity: &Identity,
+) -> Result<(), NoMemory>
+    requires none_open { D.opened dialer.old ≡ [] }
+    requires one_dial { D.dials dialer.old ≡ Some (record { link = nth_link 1; to = request.now.place.origin } ∷ []) }
+    requires one_written { sent_of (D.traffic dialer.old) ≡ record { link = nth_link 1; bytes = first_head request.now } ∷ [] }
+    requires unheard { heard_of (D.traffic dialer.old) (nth_link 2) ≡ [] }
+    requires told { IsTrue (is_some (D.traffic dialer.old)) }
+    requires quiet { D.quiet dialer.old }
+    requires streams { IsTrue (is_some (D.streams dialer.old)) }
+    requires second { stream_of (D.streams dialer.old) (nth_link 2) ≡ ok_text }
+    ensures events { OnOk result (events.new ≡ events.old ++ Event.Dialed 2 ∷ Event.Headed 2 (second_head request.now identity.now) ∷ Event.Replied 2 ok_reply ∷ []) }
+    ensures dials { OnOk result (D.dials dialer.new ≡ Some (both_dialed request.now)) }
+    ensures written { OnOk result (sent_of (D.traffic dialer.new) ≡ both_written request.now identity.now) }
+    ensures closed { OnOk result (D.opened dialer.new ≡ []) }
+{
+    let head = second_head(alloc, request, identity)?;
+    let name = LinkName { request: 1, nth: 2 };
+    let stream = exchange(alloc, dialer, name, &request.place.origin, head.as_slice())?;
+    let reply = ok_in(alloc, stream.as_slice())?;
+    push_exchange(events, 2, head, reply)
+}
+
+/// Serves the roster's one request, a GET without a proxy whose URL has no identity. Its links give a
+/// Basic challenge and then a 200; the prompt of the challenge's space is answered.
+///
+/// What the book, the dialer and the prompter tell afterwards is exactly what such a request asks of
+/// them, and the trace is that of these events.
+pub fn serve_challenge<B: Controller, D: Dialer, P: Prompter>(
+    alloc: Global,
+    book: &mut B,
+    dialer: &mut D,
+    prompter: &mut P,
+    request: &Request,
+) -> Result<Trace, NoMemory>
+    requires plain { IsPlain request.now }
+    requires roster { B.roster book.old ≡ lone_roster request.now }
+    requires no_calls { B.told book.old ≡ [] }
+    requires none_open { D.opened dialer.old ≡ [] }
+    requires no_dials { D.dials dialer.old ≡ Some [] }
+    requires no_traffic { D.traffic dialer.old ≡ Some [] }
+    requires streams { IsTrue (is_some (D.streams dialer.old)) }
+    requires calm { D.quiet dialer.old × P.quiet prompter.old }
+    requires no_asks { P.told prompter.old ≡ Some [] }
+    requires expected { IsExpected request.now (D.streams dialer.old) (P.answers prompter.old) }
+    ensures served { IfOk result (λ trace. (realm : List ℕ) (login : Login)
+        → stream_of (D.streams dialer.old) (nth_link 1) ≡ challenge_text realm → answer_of (P.answers prompter.old) (server_space request.now realm) 1 ≡ Some login
+        → IsServed request.now realm login trace (B.told book.new) (D.dials dialer.new) (D.traffic dialer.new) (P.told prompter.new)) }
+    ensures closed { OnOk result (D.opened dialer.new ≡ []) }
+    ensures roster { OnOk result (B.roster book.new ≡ lone_roster request.now) }
+{
+    let mut events = Items::new(alloc);
+    open(book, &mut events, request)?;
+    let stream = meet(alloc, dialer, &mut events, request)?;
+    let space = space_in(alloc, request, stream.as_slice())?;
+    let identity = ask(book, prompter, &mut events, request, &space)?;
+    send_again(alloc, dialer, &mut events, request, &identity)?;
+    close(book, &mut events, request, &space, &identity, 200)?;
+    Ok(Trace::new(events))
+}
