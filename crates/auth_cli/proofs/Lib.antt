@@ -1,0 +1,4 @@
+pub mod Growing
+pub mod Complete
+pub mod Served
+pub mod FirstLemmas

@@ -1,0 +1,5 @@
+pub mod Whole
+pub mod Commands
+pub mod Statuses
+pub mod Headline
+pub mod Served

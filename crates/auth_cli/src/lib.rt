@@ -1,0 +1,19 @@
+//! The top calls: a command's words and an input in, a text and a status out.
+#![tactic(auto)]
+
+mod first;
+mod serve;
+mod standard;
+mod status;
+mod streams;
+#[cfg(test)]
+mod tests;
+mod top;
+mod words;
+
+pub use auth_controller::Gear;
+pub use session_text::What;
+pub use standard::{StdSink, StdSource};
+pub use status::Status;
+pub use top::{Gears, authfetch, authfetch_alone};
+pub use words::{Command, Word};

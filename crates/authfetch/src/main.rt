@@ -1,0 +1,61 @@
+//! The program `authfetch`: its words, standard input and standard output are handed to the top call.
+#![tactic(auto)]
+
+mod told;
+
+use auth_cli::{Gears, Status, StdSink, StdSource, Word, authfetch};
+use auth_text::{Bytes, Items, NoMemory};
+use link_trait::{NoTokens, RecordedDialer};
+use std::process::ExitCode;
+use std::rt::Env;
+use std::{env, io};
+use told::{HELP, VERSION, number, tell};
+
+/// The seed of the commands whose client nonces are to be the same in each run.
+const SEED: [u8; 32] = [0; 32];
+
+/// The words behind the program's name. Words that are no text are told as none.
+fn words(rt: &(impl Env + AllocGlobal)) -> Result<Items<Word>, NoMemory> {
+    let alloc = rt.alloc();
+    let mut words = Items::new(alloc);
+    if let Ok(args) = env::args(rt) {
+        for arg in args.skip(1) {
+            words.push(Bytes::from_slice(alloc, arg.as_bytes())?)?;
+        }
+    }
+    Ok(words)
+}
+
+fn is_word(words: &[Word], expected: &[u8]) -> bool {
+    match words {
+        [word] => word.as_slice() == expected,
+        _ => false,
+    }
+}
+
+fn serve(rt: &HostRuntime, words: &[Word]) -> Status {
+    let alloc = rt.alloc();
+    let mut input = StdSource::new(rt.reader());
+    let mut output = StdSink::new(io::writer(rt));
+    let gears: Gears<RecordedDialer, NoTokens> = Gears::new(alloc);
+    let (status, _) = authfetch(rt, alloc, words, &mut input, &mut output, gears, SEED);
+    status
+}
+
+fn main(rt: HostRuntime) -> ExitCode {
+    let Ok(words) = words(&rt) else {
+        let _ = tell(&rt, Status::NoMemory);
+        return ExitCode::from(number(Status::NoMemory));
+    };
+    if is_word(words.as_slice(), b"--help") {
+        let _ = println!(rt; "{HELP}");
+        return ExitCode::SUCCESS;
+    }
+    if is_word(words.as_slice(), b"--version") {
+        let _ = println!(rt; "{VERSION}");
+        return ExitCode::SUCCESS;
+    }
+    let status = serve(&rt, words.as_slice());
+    let _ = tell(&rt, status);
+    ExitCode::from(number(status))
+}
