@@ -1,6 +1,10 @@
 -- The examples of RFC 2617, section 3.5, and RFC 7616, section 3.9.1.
-use Rattle.std.specs.Prelude.{ℕ, List, true, false, codes, Some}
+use Rattle.std.specs.Prelude.{ℕ, List, ◌++◌, map, true, false, codes, Some, Result}
 use Rattle.auth_text.specs.Login.{Login}
+use Rattle.challenge_tokens.specs.Pieces.{field_read}
+use Rattle.digest_handler.specs.declared.challenge_terms.Passed.{Passed}
+use Rattle.digest_handler.specs.declared.challenge_terms.TermsRead.{TermsRead}
+use Rattle.digest_handler.specs.ChallengeTerms.{terms_read}
 use Rattle.spaces.specs.declared.terms.Algorithm.{Algorithm}
 use Rattle.spaces.specs.declared.terms.Algorithm.TheVariants.{Md5}
 use Rattle.spaces.specs.declared.terms.Qop.{Qop}
@@ -41,3 +45,17 @@ terms_7616 algorithm = record {
 
 abbrev pub cnonce_7616 : List ℕ
 cnonce_7616 = codes "f2/wE4q74E6zIJEtWaHKaf5wv/H5QzzpXusqGemxURZJ"
+
+-- the field with the challenge
+abbrev pub field_2617 : List ℕ
+field_2617 = codes "Digest realm=\"testrealm@host.com\", qop=\"auth,auth-int\", nonce=\"dcd98b7102dd2f0e8b11d0f600bfb0c093\", opaque=\"5ccc069c403ebaf9f0171e9517f40e41\""
+
+-- the two fields, by the name of their algorithm
+abbrev pub field_7616 : List ℕ → List ℕ
+field_7616 name =
+    codes "Digest realm=\"http-auth@example.org\", qop=\"auth, auth-int\", algorithm=" ++ name
+    ++ codes ", nonce=\"7ypf/xlj9XXwfDPEoM4URrv/xwf94BcCAzFZH4GiTo0v\", opaque=\"FQhe/qaU925kfnzjCev0ciny7QMkPqMAFRtzCUYo5tdS\""
+
+-- what the challenges of a field are read as
+abbrev pub all_terms : List ℕ → List (Result TermsRead Passed)
+all_terms field = map terms_read (field_read field).challenges

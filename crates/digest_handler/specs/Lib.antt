@@ -1,3 +1,4 @@
+pub mod ChallengeTerms
 pub mod ClientNonces
 pub mod Credentials
 pub mod Examples

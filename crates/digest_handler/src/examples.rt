@@ -1,11 +1,18 @@
 //! The examples of the standards, computed from the definition of the credentials.
 
-ghost use Rattle.std.specs.Prelude.{◌≡◌, codes};
+ghost use Rattle.std.specs.Prelude.{◌≡◌, ◌∷◌, [], codes, false, Ok};
 ghost use Rattle.digest_handler.specs.Credentials.{digest_credentials, hex_hash, response};
 ghost use Rattle.digest_handler.specs.Examples as example;
 ghost use Rattle.spaces.specs.declared.roster.Method.TheVariants.{Get};
 ghost use Rattle.spaces.specs.declared.terms.Algorithm.TheVariants.{Md5, Sha256};
 ghost use Rattle.spaces.specs.declared.terms.Qop.TheVariants.{Auth, Missing};
+
+/// The challenges of the examples below ask for the terms with which these are computed.
+pub fn rfc_challenges()
+    ensures of_2617 { example.all_terms example.field_2617 ≡ Ok (record { terms = example.terms_2617 Auth; stale = false }) ∷ [] }
+    ensures of_7616_md5 { example.all_terms (example.field_7616 (codes "MD5")) ≡ Ok (record { terms = example.terms_7616 Md5; stale = false }) ∷ [] }
+    ensures of_7616_sha_256 { example.all_terms (example.field_7616 (codes "SHA-256")) ≡ Ok (record { terms = example.terms_7616 Sha256; stale = false }) ∷ [] }
+{}
 
 /// The example of RFC 2617, section 3.5.
 pub fn rfc_2617()

@@ -1,16 +1,7 @@
--- Pieces between commas, and lines.
-use Rattle.std.proofs.Common.{◌≡◌, ℕ, suc, ◌+◌, ◌-◌, ◌≤◌, Bool, true, false, cond, List, [], ◌∷◌, ◌++◌, length, take, drop, Some, None, ◌==◌, refl, sym, ap, ◌∙◌, arith, append_assoc}
+-- The pieces of a text, and its lines.
+use Rattle.std.proofs.Common.{◌≡◌, ℕ, suc, ◌+◌, ◌-◌, ◌≤◌, Bool, true, false, cond, List, [], ◌∷◌, ◌++◌, take, drop, Some, None, ◌==◌, refl, sym, ap, ◌∙◌, arith, append_assoc}
 use Rattle.std.specs.List.{position_from}
-use Rattle.std.specs.Prelude.{nat_lt}
 use Rattle.wire_head.specs.Lines.{cut_at, grow}
-use Rattle.wire_head.specs.HeaderFields.{of_pieces, trim_start, trim_end}
-
-by_test : (t : Bool) (e : List ℕ) (es : List (List ℕ)) → cond t (e ∷ es) es ≡ cond t (e ∷ []) [] ++ es
-by_test true e es = refl
-by_test false e es = refl
-
-pub of_cons : (p : List ℕ) (ps : List (List ℕ)) → of_pieces (p ∷ ps) ≡ of_pieces (p ∷ []) ++ of_pieces ps
-of_cons p ps = by_test (nat_lt 0 (length (trim_end (trim_start p)))) (trim_end (trim_start p)) (of_pieces ps)
 
 pub record Cut (stop : ℕ) (xs : List ℕ) (j k : ℕ) : Type 0 where
   pub least : j ≤ k
@@ -53,13 +44,6 @@ none_on stop false x xs j is found later = ap (λ (t : Bool). grow t x (cut_at s
 pub cut_none : (stop j : ℕ) (xs : List ℕ) → position_from (λ c. c == stop) j xs ≡ None → cut_at stop xs ≡ xs ∷ []
 cut_none stop j [] found = refl
 cut_none stop j (x ∷ xs) found = none_on stop (x == stop) x xs j refl found (cut_none stop (j + 1) xs)
-
-pub piece_step : (i : ℕ) (xs : List ℕ) (old : List (List ℕ)) → position_from (λ c. c == 44) 0 xs ≡ Some i
-    → (old ++ of_pieces (take i xs ∷ [])) ++ of_pieces (cut_at 44 (drop (i + 1) xs)) ≡ old ++ of_pieces (cut_at 44 xs)
-piece_step i xs old found =
-    append_assoc old (of_pieces (take i xs ∷ [])) (of_pieces (cut_at 44 (drop (i + 1) xs)))
-    ∙ ap (λ (es : List (List ℕ)). old ++ es) (sym (of_cons (take i xs) (cut_at 44 (drop (i + 1) xs))))
-    ∙ ap (λ (ps : List (List ℕ)). old ++ of_pieces ps) (sym (cut_some 44 i xs found))
 
 pub line_step : (i : ℕ) (xs : List ℕ) (old : List (List ℕ)) → position_from (λ c. c == 10) 0 xs ≡ Some i
     → (old ++ take i xs ∷ []) ++ cut_at 10 (drop (i + 1) xs) ≡ old ++ cut_at 10 xs

@@ -14,5 +14,4 @@ pub mod ReadLemmas
 pub mod RunLemmas
 pub mod StateLemmas
 pub mod StatusLineLemmas
-pub mod TrimLemmas
 pub mod UsedLemmas

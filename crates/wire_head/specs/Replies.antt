@@ -18,7 +18,8 @@ use Rattle.wire_head.specs.declared.plain.Progress.{Progress}
 use Rattle.wire_head.specs.declared.plain.Progress.TheVariants.{Open, Whole, Fault}
 use Rattle.wire_head.specs.Lines.{head_len}
 use Rattle.wire_head.specs.ChunkedBodies.{chunks}
-use Rattle.wire_head.specs.HeaderFields.{values_of, elements}
+use Rattle.field_lists.specs.Elements.{elements}
+use Rattle.wire_head.specs.HeaderFields.{values_of}
 use Rattle.wire_head.specs.ResponseHeads.{reply_head}
 
 abbrev pub head_limit : ℕ

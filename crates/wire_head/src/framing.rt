@@ -9,11 +9,12 @@ ghost use Rattle.std.specs.Char.{is_ascii_digit};
 ghost use Rattle.wire_head.specs.Replies as spec;
 
 use crate::chunked_body::digit_of;
-use crate::header_fields::{elements, is_same_name, values_of};
+use crate::header_fields::{is_same_name, values_of};
 use crate::lines::rest_of;
 use crate::reply::{Fields, Reply};
 use crate::response_head::ReplyHead;
 use auth_text::{Bytes, NoMemory};
+use field_lists::elements;
 use spaces::Method;
 use std::alloc::Global;
 

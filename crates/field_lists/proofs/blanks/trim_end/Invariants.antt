@@ -1,6 +1,6 @@
 use Rattle.std.proofs.Common.{◌≡◌, ◌≤◌, length, take}
-use Rattle.wire_head.specs.HeaderFields.{trim_end}
-use Rattle.wire_head.proofs.header_fields.trim_end.Given as goal
+use Rattle.field_lists.specs.Blanks.{trim_end}
+use Rattle.field_lists.proofs.blanks.trim_end.Given as goal
 
 abbrev pub invariant-loop-n : goal.invariant-loop-n
 invariant-loop-n l = (l.n ≤ length l.bytes) × (trim_end (take l.n l.bytes) ≡ trim_end l.bytes)

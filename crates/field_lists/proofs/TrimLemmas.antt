@@ -1,8 +1,7 @@
 -- A last byte, and the blanks at the end.
 use Rattle.std.proofs.Common.{◌≡◌, ℕ, true, false, List, [], ◌∷◌, ◌++◌, refl, sym, ap, ◌∙◌, ◌<◌, ◌≤◌, ◌+◌, ◌-◌, length, take, get_or, arith}
 use Rattle.std.proofs.lemmas.List.{take_more}
-use Rattle.wire_head.specs.HeaderFields.{is_blank}
-use Rattle.wire_head.specs.HeaderFields.{keep_unless_blank, trim_end}
+use Rattle.field_lists.specs.Blanks.{is_blank, keep_unless_blank, trim_end}
 
 pub trim_end-push_blank : (xs : List ℕ) (b : ℕ) → is_blank b ≡ true → trim_end (xs ++ b ∷ []) ≡ trim_end xs
 trim_end-push_blank [] b blank = rw blank refl

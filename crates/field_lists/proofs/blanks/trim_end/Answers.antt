@@ -1,7 +1,7 @@
 use Rattle.std.proofs.Common.{◌≡◌, refl, sym, ◌∙◌, arith}
-use Rattle.wire_head.proofs.TrimLemmas.{trim_end-blank, trim_end-kept}
-use Rattle.wire_head.proofs.header_fields.trim_end.Goals as goal
-use Rattle.wire_head.proofs.header_fields.trim_end.Goals.{then-loop-n-test+else-is_blank, else-loop-n-test}
+use Rattle.field_lists.proofs.TrimLemmas.{trim_end-blank, trim_end-kept}
+use Rattle.field_lists.proofs.blanks.trim_end.Goals as goal
+use Rattle.field_lists.proofs.blanks.trim_end.Goals.{then-loop-n-test+else-is_blank, else-loop-n-test}
 
 pub loop-n-preserved : goal.loop-n-preserved
 loop-n-preserved c =
