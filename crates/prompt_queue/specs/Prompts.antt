@@ -6,10 +6,11 @@ use Rattle.prompt_queue.specs.declared.queue.Joined.TheVariants.{Lead, Follow}
 use Rattle.prompt_queue.specs.declared.queue.PromptTake.{PromptTake}
 use Rattle.prompt_queue.specs.declared.queue.PromptTake.TheVariants.{Pending, Gave, Cancelled}
 
+-- what a queue is seen as
 pub record Queue : Type 0 where
   -- there is room for 32 prompts of each of so many requests
   pub requests : ℕ
-  -- the spaces of smaller numbers were added
+  -- there is room for the spaces of smaller numbers: they were added
   pub spaces : ℕ
   pub prompts : List Prompt
 

@@ -3,6 +3,7 @@
 //! answer that it got.
 #![tactic(auto)]
 
+pub mod laws;
 mod queue;
 #[cfg(test)]
 mod tests;

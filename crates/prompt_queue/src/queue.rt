@@ -166,7 +166,7 @@ impl PromptQueue {
 
     /// What the prompt has for the request, whichever of those who wait it is. It changes nothing, so
     /// each takes the same.
-    pub fn take(&mut self, prompt: u32, _request: u32) -> PromptTake
+    pub fn take(&mut self, prompt: u32, request: u32) -> PromptTake
         requires { IsTrue (is_some (prompt_of self.old.prompts prompt)) }
         ensures taken { ending_of self.old.prompts prompt ≡ Some result }
         ensures same { self.new ≡ self.old }
