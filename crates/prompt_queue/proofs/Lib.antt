@@ -1,0 +1,6 @@
+pub mod Places
+pub mod Latest
+pub mod Keeping
+pub mod CallLemmas
+pub mod Prompting
+pub mod HistoryLemmas

@@ -1,0 +1,3 @@
+pub mod Prompts
+pub mod Rows
+pub mod Histories
