@@ -1,0 +1,32 @@
+//! The names of the kernels, as the first word gives them.
+
+/// How many threads share the work.
+#[derive(Clone, Copy, Debug, PartialEq, Eq)]
+pub enum Crew {
+    One,
+    Two,
+    Four,
+}
+
+/// A kernel, and its size where there are several.
+#[derive(Clone, Copy, Debug, PartialEq, Eq)]
+pub enum Kernel {
+    /// Readings of a field of 60,000 bytes.
+    Challenges,
+    /// Readings of a field of 15,000 bytes.
+    ChallengesQuarter,
+    /// Draws of one nonce's counts by this many threads.
+    Draws(Crew),
+}
+
+/// The kernel of this name.
+pub fn kernel_of(name: &str) -> Option<Kernel> {
+    match name {
+        "challenges" => Some(Kernel::Challenges),
+        "challenges-quarter" => Some(Kernel::ChallengesQuarter),
+        "draws1" => Some(Kernel::Draws(Crew::One)),
+        "draws2" => Some(Kernel::Draws(Crew::Two)),
+        "draws4" => Some(Kernel::Draws(Crew::Four)),
+        _ => None,
+    }
+}
