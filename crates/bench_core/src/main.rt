@@ -4,12 +4,14 @@
 
 mod challenges;
 mod draws;
+mod turns;
 mod words;
 
 use crate::words::{Kernel, kernel_of};
 use auth_text::NoMemory;
 use std::process::ExitCode;
 use std::rt::Env;
+use std::sync::Wait;
 use std::thread::Threads;
 use std::{env, io};
 
@@ -31,18 +33,19 @@ fn compared(done: Result<u32, NoMemory>, times: u32) -> Outcome {
     }
 }
 
-fn run<R: AllocGlobal + Threads + Sync>(rt: &R, kernel: Kernel, times: u32) -> Outcome {
+fn run<R: AllocGlobal + Threads + Wait + Sync>(rt: &R, kernel: Kernel, times: u32) -> Outcome {
     let alloc = rt.alloc();
     let done = match kernel {
         Kernel::Challenges => challenges::run(alloc, 400, times),
         Kernel::ChallengesQuarter => challenges::run(alloc, 100, times),
+        Kernel::Turns(crew) => turns::run(rt, alloc, crew, times),
         Kernel::Draws(crew) => draws::run(rt, alloc, crew, times),
     };
     compared(done, times)
 }
 
 /// What the words ask for. Without words there is nothing to do.
-fn measured<R: AllocGlobal + Env + Threads + Sync>(rt: &R) -> io::Result<Outcome> {
+fn measured<R: AllocGlobal + Env + Threads + Wait + Sync>(rt: &R) -> io::Result<Outcome> {
     let mut args = env::args(rt)?.skip(1);
     let Some(name) = args.next() else {
         return Ok(Outcome::Done);

@@ -15,6 +15,8 @@ pub enum Kernel {
     Challenges,
     /// Readings of a field of 15,000 bytes.
     ChallengesQuarter,
+    /// Turns on one list by this many threads.
+    Turns(Crew),
     /// Draws of one nonce's counts by this many threads.
     Draws(Crew),
 }
@@ -24,6 +26,9 @@ pub fn kernel_of(name: &str) -> Option<Kernel> {
     match name {
         "challenges" => Some(Kernel::Challenges),
         "challenges-quarter" => Some(Kernel::ChallengesQuarter),
+        "turns1" => Some(Kernel::Turns(Crew::One)),
+        "turns2" => Some(Kernel::Turns(Crew::Two)),
+        "turns4" => Some(Kernel::Turns(Crew::Four)),
         "draws1" => Some(Kernel::Draws(Crew::One)),
         "draws2" => Some(Kernel::Draws(Crew::Two)),
         "draws4" => Some(Kernel::Draws(Crew::Four)),
