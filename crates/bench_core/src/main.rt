@@ -4,6 +4,8 @@
 
 mod challenges;
 mod draws;
+mod replies;
+mod respond;
 mod turns;
 mod words;
 
@@ -38,6 +40,8 @@ fn run<R: AllocGlobal + Threads + Wait + Sync>(rt: &R, kernel: Kernel, times: u3
     let done = match kernel {
         Kernel::Challenges => challenges::run(alloc, 400, times),
         Kernel::ChallengesQuarter => challenges::run(alloc, 100, times),
+        Kernel::Replies => replies::run(alloc, times),
+        Kernel::Respond(algorithm) => respond::run(alloc, algorithm, times),
         Kernel::Turns(crew) => turns::run(rt, alloc, crew, times),
         Kernel::Draws(crew) => draws::run(rt, alloc, crew, times),
     };
