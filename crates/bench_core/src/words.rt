@@ -1,0 +1,46 @@
+//! The names of the kernels, as the first word gives them.
+
+use spaces::Algorithm;
+
+/// How many threads share the work.
+#[derive(Clone, Copy, Debug, PartialEq, Eq)]
+pub enum Crew {
+    One,
+    Two,
+    Four,
+}
+
+/// A kernel, and its size where there are several.
+#[derive(Clone, Copy, Debug, PartialEq, Eq)]
+pub enum Kernel {
+    /// Readings of a field of 60,000 bytes.
+    Challenges,
+    /// Readings of a field of 15,000 bytes.
+    ChallengesQuarter,
+    /// Credentials of a Digest request with this hash.
+    Respond(Algorithm),
+    /// Readings of one reply of 60,000 bytes, fed whole.
+    Replies,
+    /// Turns on one list by this many threads.
+    Turns(Crew),
+    /// Draws of one nonce's counts by this many threads.
+    Draws(Crew),
+}
+
+/// The kernel of this name.
+pub fn kernel_of(name: &str) -> Option<Kernel> {
+    match name {
+        "challenges" => Some(Kernel::Challenges),
+        "challenges-quarter" => Some(Kernel::ChallengesQuarter),
+        "respond-md5" => Some(Kernel::Respond(Algorithm::Md5)),
+        "respond-sha256" => Some(Kernel::Respond(Algorithm::Sha256)),
+        "replies" => Some(Kernel::Replies),
+        "turns1" => Some(Kernel::Turns(Crew::One)),
+        "turns2" => Some(Kernel::Turns(Crew::Two)),
+        "turns4" => Some(Kernel::Turns(Crew::Four)),
+        "draws1" => Some(Kernel::Draws(Crew::One)),
+        "draws2" => Some(Kernel::Draws(Crew::Two)),
+        "draws4" => Some(Kernel::Draws(Crew::Four)),
+        _ => None,
+    }
+}
