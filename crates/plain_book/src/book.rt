@@ -11,7 +11,7 @@ use std::alloc::Global;
 /// A book that finds every reply by going over its journal.
 #[derive(Drop)]
 pub struct PlainBook {
-    pub(crate) ledger: Ledger,
+    ledger: Ledger,
 }
 
 impl PlainBook {
@@ -47,7 +47,7 @@ impl PlainBook {
     }
 
     /// Answers the call. It takes no memory.
-    pub(crate) fn answer_call(&mut self, caller: u32, request: u32, call: Call) -> Did
+    fn answer_call(&mut self, caller: u32, request: u32, call: Call) -> Did
         requires { IsTrue (Book.allowed self.old.ledger.roster self.old.ledger.names (reverse self.old.ledger.journal.entries) caller request call) }
         ensures reply { result.reply ≡ Book.answer self.old.ledger.roster self.old.ledger.names (reverse self.old.ledger.journal.entries) request call }
         ensures journal { self.new.ledger.journal.entries ≡ (if is_pending result.reply then self.old.ledger.journal.entries
