@@ -1,6 +1,6 @@
 -- What a ledger keeps when an entry or a name is added.
-use Rattle.std.proofs.Common.{◌≡◌, ℕ, suc, ◌+◌, ◌*◌, ◌<◌, ◌≤◌, false, cond, List, [], ◌∷◌, ◌++◌, length, refl, ap, sym, subst, ◌∙◌, inl, inr, ◌⊎◌, arith, Option, Some, None, length-append}
-use Rattle.std.specs.Prelude.{All, IsTrue, is_some, reverse, option_map}
+use Rattle.std.proofs.Common.{◌≡◌, ℕ, ◌+◌, ◌*◌, ◌<◌, ◌≤◌, false, cond, List, [], ◌∷◌, ◌++◌, length, refl, ap, sym, subst, ◌∙◌, inl, inr, ◌⊎◌, arith, Option, Some, None, length-append}
+use Rattle.std.specs.Prelude.{IsTrue, is_some, reverse, option_map}
 use Rattle.std.proofs.lemmas.List.Elements.{All-nil, All-push, All-weaker}
 use Rattle.std.proofs.Props.{props}
 use Rattle.std.proofs.lemmas.Bool.{false≢true}
@@ -10,16 +10,15 @@ use Rattle.spaces.specs.declared.roster.Roster.{Roster}
 use Rattle.spaces.specs.Sites.{numbered}
 use Rattle.auth_events.specs.declared.journal.Entry.{Entry}
 use Rattle.auth_events.specs.declared.names.TermsName.{TermsName}
-use Rattle.auth_events.specs.declared.names.NonceName.{NonceName}
 use Rattle.auth_events.specs.declared.told.Told.{Told}
 use Rattle.auth_events.specs.declared.told.Told.TheVariants.{SpaceNamed, TermsNamed, TextNamed}
 use Rattle.auth_events.specs.declared.told.NewName.{NewName}
 use Rattle.auth_events.specs.declared.told.NameKind.{NameKind}
 use Rattle.auth_events.specs.declared.told.NameKind.TheVariants.{Space as OfSpace, Terms as OfTerms, Text as OfText}
-use Rattle.auth_events.specs.Tables.{Tables, no_names, with_space, with_terms, with_nonce, with_text, space_number, terms_number, nonce_for, nonce_named, is_home, AreNames, AreFew}
-use Rattle.auth_events.specs.Pages.{HasRoomFor, IsWithinRoom}
-use Rattle.auth_events.specs.Book.{allowed, answer, IsLegalPast}
-use Rattle.auth_events.specs.Told.{IsNamed, is_pending, names_told, name_told, with_told, weave, told_space, told_terms, MayNameSpace, MayNameTerms}
+use Rattle.auth_events.specs.Tables.{Tables, no_names, with_space, with_terms, with_text, space_number, terms_number, nonce_for, is_home, AreNames, AreFew}
+use Rattle.auth_events.specs.Pages.{HasRoomFor}
+use Rattle.auth_events.specs.Book.{allowed, answer}
+use Rattle.auth_events.specs.Told.{IsNamed, is_pending, name_told, with_told, told_space, told_terms, MayNameSpace, MayNameTerms}
 use Rattle.auth_events.specs.Ledgers.{IsKept, told_of}
 use Rattle.auth_events.proofs.Numbers.{numbered-last}
 use Rattle.auth_events.proofs.RoomLemmas.{IsWithinRoom-push}

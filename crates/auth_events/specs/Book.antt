@@ -5,11 +5,10 @@ use Rattle.spaces.specs.declared.roster.Roster.{Roster}
 use Rattle.spaces.specs.declared.site.Site.{Site}
 use Rattle.spaces.specs.ProtectionSpaces.{ProtectionSpace}
 use Rattle.spaces.specs.declared.site.Target.{Target}
-use Rattle.spaces.specs.declared.roster.Request.{Request}
-use Rattle.spaces.specs.declared.site.Target.TheVariants.{Server, Proxy, Socks}
+use Rattle.spaces.specs.declared.site.Target.TheVariants.{Server}
 use Rattle.spaces.specs.declared.space.Scheme.{Scheme}
 use Rattle.spaces.specs.declared.space.Scheme.TheVariants.{Basic, Digest, Negotiate}
-use Rattle.spaces.specs.Sites.{numbered, site, path, same_site, same_origin, same_target}
+use Rattle.spaces.specs.Sites.{numbered, site, path, same_site, same_origin, same_target, is_on_route}
 use Rattle.spaces.specs.Paths.{dir_of, covers}
 use Rattle.auth_events.specs.declared.journal.Gift.{Gift}
 use Rattle.auth_events.specs.declared.journal.Call.{Call}
@@ -81,10 +80,6 @@ without_draws history = filter (λ entry. not (draws entry.call)) history
 abbrev pub preempts : Call → Target → Bool
 preempts (Preempt t) target = same_target t target
 preempts _ target = false
-
-abbrev pub is_preempt : Call → Bool
-is_preempt (Preempt target) = true
-is_preempt _ = false
 
 abbrev pub takes : Call → ℕ → Bool
 takes (Take prompt) p = prompt == p
@@ -213,12 +208,6 @@ select_answer is_rival past s (By_cache gift) = Cached gift
 select_answer is_rival past s By_default = Default
 select_answer is_rival past s (By_following p) = Follow p
 select_answer is_rival past s By_leading = Lead (leads past + 1) (leads_of past s + 1)
-
--- the target is on the request's way: the proxy, where it has one, and the server
-abbrev pub is_on_route : Request → Target → Bool
-is_on_route request Server = true
-is_on_route request Proxy = is_some request.proxy
-is_on_route request Socks = false
 
 -- what the names tell
 

@@ -2,7 +2,7 @@
 
 ghost use Rattle.std.specs.Prelude.{◌≡◌, ◌&&◌, ◌==◌, not, reverse, length, is_some, option_map, option_and_then, unwrap_or, nat_le, if◌then◌else◌, false};
 ghost use Rattle.std.specs.List.{list_any};
-ghost use Rattle.spaces.specs.Sites.{numbered, site};
+ghost use Rattle.spaces.specs.Sites.{is_on_route, numbered, site};
 ghost use Rattle.auth_events.specs.Book as Book;
 ghost use Rattle.auth_events.specs.Past as Past;
 
@@ -218,7 +218,7 @@ fn fits_space(names: &Names, space: u32, terms: u32) -> bool
 
 /// Whether the target is on the request's route.
 fn is_on_route(roster: &Roster, request: u32, target: Target) -> bool
-    ensures { result ≡ unwrap_or (option_map (λ found. Book.is_on_route found target) (numbered roster.now.requests request)) false }
+    ensures { result ≡ unwrap_or (option_map (λ found. is_on_route found target) (numbered roster.now.requests request)) false }
 {
     match roster.requests.get(request) {
         Some(found) => match target {

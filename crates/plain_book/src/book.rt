@@ -94,7 +94,7 @@ impl Controller for PlainBook {
     ghost use Rattle.std.proofs.Common.{sym, subst, ap, ◌∙◌};
     ghost use Rattle.std.proofs.Math.Logic.{∥∥₁_elim};
     ghost use Rattle.auth_events.specs.Ledgers.{told_of};
-    ghost use Rattle.auth_events.proofs.Laws.{legal, no_draw, told_names, are_names, few};
+    ghost use Rattle.auth_events.proofs.LedgerLaws.{legal, no_draw, told_names, are_names, few};
 
     ghost roster = { λ book. book.ledger.roster };
 

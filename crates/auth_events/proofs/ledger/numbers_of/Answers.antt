@@ -1,5 +1,5 @@
 -- Terms that have a number are found by it.
-use Rattle.std.proofs.Common.{◌≡◌, sym, ap, ◌∙◌, Some, None}
+use Rattle.std.proofs.Common.{◌≡◌, sym, ap, ◌∙◌, Some}
 use Rattle.std.proofs.lemmas.Bool.{false≢true}
 use Rattle.std.specs.Prelude.{is_some, option_copied}
 use Rattle.spaces.specs.Sites.{numbered}

@@ -1,5 +1,5 @@
 -- Terms more.
-use Rattle.std.proofs.Common.{◌≡◌, ◌≤◌, ◌*◌, ◌++◌, ◌∷◌, [], ◌+◌, length, ap, sym, subst, ◌∙◌, arith, None, Some, Option, length-append}
+use Rattle.std.proofs.Common.{◌≡◌, ◌++◌, ◌∷◌, [], ◌+◌, length, ap, sym, subst, ◌∙◌, arith, Some, Option, length-append}
 use Rattle.spaces.specs.declared.terms.Terms.{Terms}
 use Rattle.std.proofs.Math.Logic.{∥∥₁_elim, ∥∥₁_map}
 use Rattle.std.specs.Coded.{le_prop}
@@ -7,15 +7,15 @@ use Rattle.std.specs.Prelude.{IsTrue}
 use Rattle.spaces.specs.Sites.{numbered}
 use Rattle.auth_events.specs.declared.told.NewName.{NewName}
 use Rattle.auth_events.specs.declared.names.TermsName.{TermsName}
-use Rattle.auth_events.specs.declared.told.NameKind.TheVariants.{Space as OfSpace, Terms as OfTerms, Text as OfText}
-use Rattle.auth_events.specs.Tables.{Tables, space_number, terms_number, nonce_for, is_home, with_space, with_terms, with_text}
-use Rattle.auth_events.specs.Told.{told_space, told_terms, MayNameSpace, MayNameTerms}
-use Rattle.auth_events.specs.Ledgers.{IsKept, told_of}
+use Rattle.auth_events.specs.declared.told.NameKind.TheVariants.{Terms as OfTerms}
+use Rattle.auth_events.specs.Tables.{Tables, terms_number, nonce_for, is_home}
+use Rattle.auth_events.specs.Told.{told_terms, MayNameTerms}
+use Rattle.auth_events.specs.Ledgers.{told_of}
 use Rattle.auth_events.proofs.Numbers.{numbered-last}
 use Rattle.auth_events.proofs.Naming.{nonce_for-few}
 use Rattle.auth_events.proofs.Once.{same_told_prop}
 use Rattle.auth_events.proofs.RoomLemmas.{length-le-room}
-use Rattle.auth_events.proofs.Keeping.{few_terms, kept_with_space, told_with_space, kept_with_terms, told_with_terms, kept_with_text, told_with_text}
+use Rattle.auth_events.proofs.Keeping.{few_terms, kept_with_terms, told_with_terms}
 use Rattle.auth_events.proofs.ledger.Ledger.name_terms.Goals as goal
 
 pub overflow_cast-before : goal.overflow_cast-before

@@ -1,10 +1,9 @@
 -- The entries of the told list are the journal.
-use Rattle.std.proofs.Common.{◌≡◌, sym, subst, ap, ◌∙◌}
+use Rattle.std.proofs.Common.{◌≡◌, sym, subst}
 use Rattle.std.proofs.Math.Logic.{∥∥₁_elim}
 use Rattle.std.specs.Prelude.{reverse, IsTrue}
 use Rattle.auth_events.specs.Book.{allowed, answer}
 use Rattle.auth_events.specs.Told.{retired_by, is_pending}
-use Rattle.auth_events.specs.Ledgers.{told_of}
 use Rattle.auth_events.proofs.Weave.{journal-weave, weave_after}
 use Rattle.auth_events.proofs.Once.{same_told_prop}
 use Rattle.plain_book.proofs.book.PlainBookController.call.Goals as goal

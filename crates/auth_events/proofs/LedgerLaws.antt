@@ -1,8 +1,8 @@
 -- The laws of a book that stands on a ledger.
-use Rattle.std.proofs.Common.{◌≡◌, sym, subst, ap, length, List, true, ◌∙◌}
+use Rattle.std.proofs.Common.{◌≡◌, sym, subst, ap, length, List, ◌∙◌}
 use Rattle.std.proofs.Math.Logic.{∥∥₁_elim}
 use Rattle.std.proofs.Props.{props}
-use Rattle.std.specs.Prelude.{All, IsTrue, reverse, not}
+use Rattle.std.specs.Prelude.{IsTrue, reverse, not}
 use Rattle.std.specs.List.{list_all}
 use Rattle.spaces.specs.declared.roster.Roster.{Roster}
 use Rattle.auth_events.specs.declared.journal.Entry.{Entry}
