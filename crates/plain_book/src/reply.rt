@@ -1,6 +1,6 @@
 //! The reply to each call, and the nonce that its entry takes out.
 
-ghost use Rattle.std.specs.Prelude.{◌≡◌, ◌+◌, ◌^◌, ◌<◌, reverse, length};
+ghost use Rattle.std.specs.Prelude.{◌≡◌, ◌+◌, ◌^◌, ◌<◌, ◌&&◌, not, reverse, length};
 ghost use Rattle.std.specs.List.{list_any};
 ghost use Rattle.auth_events.specs.Told.{is_pending};
 ghost use Rattle.auth_events.specs.Book as Book;
@@ -13,6 +13,7 @@ use crate::find::{
 use crate::paths::space_by_path;
 use crate::scan;
 use auth_events::{BookReply, Call, Entry, Gift, Names};
+use identity_sources::{Choice, Facts, choose};
 use spaces::{Roster, Target};
 
 /// Whether `Url` was answered to the request.
@@ -44,6 +45,31 @@ pub fn was_default_told(entries: &[Entry], request: u32, space: u32) -> bool
     found
 }
 
+/// Whether the URL's identity may be given: the target is the server, and `Url` wasn't answered before.
+fn may_use_url(roster: &Roster, names: &Names, entries: &[Entry], request: u32, space: u32) -> bool
+    ensures { result ≡ (Book.is_server (Book.target_of names.now space) && Book.has_url_identity roster.now request && not (Book.was_url_told (reverse entries.now) request)) }
+{
+    matches!(target_of(names, space), Target::Server)
+        && has_url_identity(roster, request)
+        && !was_url_told(entries, request)
+}
+
+/// Whether the default identity may be given: Negotiate, an allowed origin, and `Default` wasn't
+/// answered for the space before.
+fn may_use_default(
+    roster: &Roster,
+    names: &Names,
+    entries: &[Entry],
+    request: u32,
+    space: u32,
+) -> bool
+    ensures { result ≡ (Book.scheme_is names.now Book.is_negotiate space && Book.is_allowed_origin roster.now names.now space && not (Book.was_default_told (reverse entries.now) request space)) }
+{
+    is_negotiate(names, space)
+        && is_allowed_origin(roster, names, space)
+        && !was_default_told(entries, request, space)
+}
+
 /// The reply to a `Select`.
 pub fn select(
     roster: &Roster,
@@ -55,29 +81,26 @@ pub fn select(
     requires { length entries.now + 1 < 2 ^ 32 }
     ensures { result ≡ Book.select_answer (Book.is_rival names.now space) (reverse entries.now) space (Book.choice roster.now names.now (reverse entries.now) request space) }
 {
-    if matches!(target_of(names, space), Target::Server)
-        && has_url_identity(roster, request)
-        && !was_url_told(entries, request)
-    {
-        return BookReply::Url {
+    let held = scan::current(entries, space);
+    let led = scan::open_lead(entries, space);
+    // Of the gift and the prompt it matters here only whether there is one.
+    let chosen = choose(Facts {
+        url: may_use_url(roster, names, entries, request, space),
+        cached: u32::from(held.is_some()),
+        ambient: may_use_default(roster, names, entries, request, space),
+        prompt: u32::from(led.is_some()),
+    });
+    match (chosen, held, led) {
+        (Choice::Url, _, _) => BookReply::Url {
             gift: next_gift(entries, space),
             evicted: evicted(names, entries, space),
-        };
-    }
-    if let Some(gift) = scan::current(entries, space) {
-        return BookReply::Cached { gift };
-    }
-    if is_negotiate(names, space)
-        && is_allowed_origin(roster, names, space)
-        && !was_default_told(entries, request, space)
-    {
-        return BookReply::Default;
-    }
-    match scan::open_lead(entries, space) {
-        Some(entry) => BookReply::Follow {
+        },
+        (Choice::Cached, Some(gift), _) => BookReply::Cached { gift },
+        (Choice::Default, _, _) => BookReply::Default,
+        (Choice::Follow, _, Some(entry)) => BookReply::Follow {
             prompt: scan::prompt_of(entry.reply),
         },
-        None => BookReply::Lead {
+        _ => BookReply::Lead {
             prompt: scan::leads(entries) + 1,
             ordinal: scan::leads_of(entries, space) + 1,
         },
