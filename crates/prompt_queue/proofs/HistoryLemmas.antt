@@ -240,8 +240,8 @@ followed_led roster names (entry ∷ past) r p legal positive is =
     here true is next = at (prompt_followed entry.reply == p) refl is next
     here false is next = next is
 
-pending_yet : (roster : Roster) (names : Tables) (past : List Entry) (p : ℕ) → MaySettle past p → ending_of (prompts_of past) p ≡ Some IsPending
-pending_yet roster names past p may = ending_led past p may.led ∙ ap (λ reply. Some (taken_by reply)) (end_open past p may.still)
+pending_yet : (past : List Entry) (r p : ℕ) → MaySettle past r p → ending_of (prompts_of past) p ≡ Some IsPending
+pending_yet past r p may = ending_led past p may.led ∙ ap (λ reply. Some (taken_by reply)) (end_open past p may.still)
 
 may_take : (roster : Roster) (names : Tables) (past : List Entry) (r p : ℕ) → IsLegalPast roster names past → IsTrue (allowed_call roster names past r (Take p)) → IsTrue (is_some (prompt_of (prompts_of past) p))
 may_take roster names past r p legal may =
@@ -255,7 +255,7 @@ may_take roster names past r p legal may =
 
 pub may_tell : (roster : Roster) (names : Tables) (past : List Entry) (r : ℕ) (call : Call) → IsLegalPast roster names past → IsTrue (allowed_call roster names past r call) → MayBeTold call (prompts_of past)
 may_tell roster names past r (Answer p x t) legal may =
-    pending_yet roster names past p (settles_led past r p (and_left _ (nat_le x (length names.texts)) (and_left _ (unwrap_or (option_map (λ (e : Entry). terms_selected e.call == t) (lead past p)) false) may)))
-may_tell roster names past r (Lose p loss) legal may = pending_yet roster names past p (settles_led past r p may)
+    pending_yet past r p (settles_led past r p (and_left _ (nat_le x (length names.texts)) (and_left _ (unwrap_or (option_map (λ (e : Entry). terms_selected e.call == t) (lead past p)) false) may)))
+may_tell roster names past r (Lose p loss) legal may = pending_yet past r p (settles_led past r p may)
 may_tell roster names past r (Take p) legal may = may_take roster names past r p legal may
 may_tell roster names past r call legal may = tt

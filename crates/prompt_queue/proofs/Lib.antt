@@ -4,3 +4,4 @@ pub mod Keeping
 pub mod CallLemmas
 pub mod Prompting
 pub mod HistoryLemmas
+pub mod RoomOfPrompts

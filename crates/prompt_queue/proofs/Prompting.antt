@@ -114,7 +114,7 @@ pub leads-cons : (entry : Entry) (past : List Entry) → leads (entry ∷ past) 
 leads-cons entry past = sum_by-cons (λ e. cond (is_lead e.reply) 1 0) entry past
 
 -- the prompts that were led have the numbers up to that of the latest
-led_within : (roster : Roster) (names : Tables) (past : List Entry) (p : ℕ) → IsLegalPast roster names past → IsTrue (is_some (lead past p)) → p ≤ leads past
+pub led_within : (roster : Roster) (names : Tables) (past : List Entry) (p : ℕ) → IsLegalPast roster names past → IsTrue (is_some (lead past p)) → p ≤ leads past
 led_within roster names [] p legal led = absurd (false≢true led)
 led_within roster names (entry ∷ past) p legal led =
     subst (λ n. p ≤ n) (sym (leads-cons entry past)) (here (is_lead entry.reply) refl led (λ more. led_within roster names past p legal.0 more))
@@ -131,7 +131,8 @@ led_within roster names (entry ∷ past) p legal led =
 -- WHAT IS SETTLED
 
 -- who settles a prompt leads it, and it wasn't settled before
-pub record MaySettle (past : List Entry) (p : ℕ) : Type 0 where
+pub record MaySettle (past : List Entry) (r p : ℕ) : Type 0 where
+  pub by : IsTrue (is_led_by past r p)
   pub led : IsTrue (is_some (lead past p))
   pub still : settled past p ≡ false
 
@@ -139,23 +140,24 @@ pub not_true : (b : Bool) → IsTrue (not b) → b ≡ false
 not_true true is = absurd (false≢true is)
 not_true false is = refl
 
-pub settles_led : (past : List Entry) (r p : ℕ) → IsTrue (is_led_by past r p && not (settled past p)) → MaySettle past p
+pub settles_led : (past : List Entry) (r p : ℕ) → IsTrue (is_led_by past r p && not (settled past p)) → MaySettle past r p
 settles_led past r p may = record {
+  by = and_left (is_led_by past r p) (not (settled past p)) may;
   led = some_of_test (λ entry. entry.request == r) (lead past p) (and_left (is_led_by past r p) (not (settled past p)) may);
   still = not_true (settled past p) (and_right (is_led_by past r p) (not (settled past p)) may);
 }
 
-pub may_settle : (roster : Roster) (names : Tables) (past : List Entry) (entry : Entry) (p : ℕ) → IsStep roster names past entry → settles entry.call p ≡ true → MaySettle past p
+pub may_settle : (roster : Roster) (names : Tables) (past : List Entry) (entry : Entry) (p : ℕ) → IsStep roster names past entry → settles entry.call p ≡ true → MaySettle past entry.request p
 may_settle roster names past entry p step is =
     only_settles P by_answer by_cancel by_loss entry.call entry.reply p step.2 is is
     (and_right (cond (begins entry.call) (no_entry past entry.request) (is_open past entry.caller entry.request)) (allowed_call roster names past entry.request entry.call) step.0)
   where
     P : Call → BookReply → Type 0
-    P call reply = settles call p ≡ true → IsTrue (allowed_call roster names past entry.request call) → MaySettle past p
+    P call reply = settles call p ≡ true → IsTrue (allowed_call roster names past entry.request call) → MaySettle past entry.request p
 
-    settle : (q x t : ℕ) → (q == p) ≡ true → IsTrue (allowed_call roster names past entry.request (Answer q x t)) → MaySettle past p
+    settle : (q x t : ℕ) → (q == p) ≡ true → IsTrue (allowed_call roster names past entry.request (Answer q x t)) → MaySettle past entry.request p
     settle q x t same may =
-        subst (λ n. MaySettle past n) (eqb-true q p same) (settles_led past entry.request q (and_left _ (nat_le x (length names.texts)) (and_left _ (unwrap_or (option_map (λ (e : Entry). terms_selected e.call == t) (lead past q)) false) may)))
+        subst (λ n. MaySettle past entry.request n) (eqb-true q p same) (settles_led past entry.request q (and_left _ (nat_le x (length names.texts)) (and_left _ (unwrap_or (option_map (λ (e : Entry). terms_selected e.call == t) (lead past q)) false) may)))
 
     by_answer : (q x t : ℕ) (gift : Gift) (evicted : ℕ) → P (Answer q x t) (Given gift evicted)
     by_answer q x t gift evicted same may = settle q x t same may
@@ -164,7 +166,7 @@ may_settle roster names past entry p step is =
     by_cancel q x t same may = settle q x t same may
 
     by_loss : (q : ℕ) (loss told : Loss) → P (Lose q loss) (Lost told)
-    by_loss q loss told same may = subst (λ n. MaySettle past n) (eqb-true q p same) (settles_led past entry.request q may)
+    by_loss q loss told same may = subst (λ n. MaySettle past entry.request n) (eqb-true q p same) (settles_led past entry.request q may)
 
 -- a prompt that wasn't led isn't settled
 pub unled_open : (roster : Roster) (names : Tables) (past : List Entry) (p : ℕ) → IsLegalPast roster names past → leads past < p → settled past p ≡ false
@@ -174,6 +176,6 @@ unled_open roster names (entry ∷ past) p legal more =
   where
     here : (b : Bool) → settles entry.call p ≡ b → settled past p ≡ false → (b || settled past p) ≡ false
     here true is next =
-        let may : MaySettle past p = may_settle roster names past entry p legal.1 is in
+        let may : MaySettle past entry.request p = may_settle roster names past entry p legal.1 is in
         absurd (omega (arith, led_within roster names past p legal.0 may.led, leads-cons entry past))
     here false is next = next

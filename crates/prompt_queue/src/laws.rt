@@ -2,11 +2,12 @@
 //! contract of a function that does nothing, so the check proves it for all legal histories of any
 //! book.
 
-ghost use Rattle.std.specs.Prelude.{◌≡◌, ◌∷◌, ℕ, Bool, false, IsTrue, List, None, Some, is_some, option_map};
+ghost use Rattle.std.specs.Prelude.{◌≡◌, ◌*◌, ◌<◌, ◌∷◌, length, reverse, ℕ, Bool, false, IsTrue, List, None, Some, is_some, option_map};
 ghost use Rattle.spaces.specs.declared.roster.Roster.{Roster};
 ghost use Rattle.auth_events.specs.declared.journal.Call.{Call};
 ghost use Rattle.auth_events.specs.declared.journal.Entry.{Entry};
 ghost use Rattle.auth_events.specs.Tables.{Tables};
+ghost use Rattle.auth_events.specs.Pages.{IsWithinRoom, HasRoomFor};
 ghost use Rattle.auth_events.specs.Past.{lead, open_lead, end};
 ghost use Rattle.auth_events.specs.Book.{IsLegalPast, allowed_call, first_choice, select_answer, space_of_prompt};
 ghost use Rattle.prompt_queue.specs.Prompts.{joined, ending_of};
@@ -26,6 +27,15 @@ pub fn may_be_told()
     ensures { (roster : Roster) (names : Tables) (past : List Entry) (r : ℕ) (call : Call)
         → IsLegalPast roster names past → IsTrue (allowed_call roster names past r call)
         → MayBeTold call (prompts_of past) }
+{}
+
+/// While a journal has room for an entry, a queue for as many requests has room for a prompt: a request
+/// settles each prompt that it leads before it leads the next.
+pub fn has_room_with_the_journal()
+    ensures { (roster : Roster) (names : Tables) (n : ℕ) (journal : List Entry) (entry : Entry)
+        → IsWithinRoom n journal → HasRoomFor (record { requests = n; entries = journal }) entry
+        → IsLegalPast roster names (reverse journal)
+        → length (prompts_of (reverse journal)) < 32 * n }
 {}
 
 /// The queue says who leads and who follows: it joins a request as the book replies where neither the
