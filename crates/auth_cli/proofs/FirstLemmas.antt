@@ -8,6 +8,7 @@ use Rattle.auth_events.proofs.Same.{bytes_same}
 use Rattle.link_trait.specs.declared.prompts.Asked.TheVariants.{Given}
 use Rattle.link_trait.specs.Links.{stream_in}
 use Rattle.link_trait.specs.Prompts.{IsAnswerBy, answer_in}
+use Rattle.auth_controller.specs.Challenges.{realm_field, realm_in}
 use Rattle.auth_controller.specs.FirstPath.{IsPlain, nth_link, server_space}
 use Rattle.auth_controller.specs.Heard.{challenge_text, ok_text, realm_sent, if_sent}
 use Rattle.auth_cli.specs.Served.{IsFirstWith}
@@ -46,14 +47,15 @@ some_login None holds = cc
 some_login (Some login) holds = (login, refl)
 
 pub first_with : (request : Request) (links : List (List (List ℕ))) (answers : List (ProtectionSpace × Option Login)) (realm : List ℕ) (space : ProtectionSpace)
-    → IsPlain request → stream_in links (nth_link 1) ≡ challenge_text realm → stream_in links (nth_link 2) ≡ ok_text
+    → IsPlain request → realm_in (realm_field realm) ≡ Some realm → stream_in links (nth_link 1) ≡ challenge_text realm → stream_in links (nth_link 2) ≡ ok_text
     → space ≡ server_space request realm → IsTrue (is_some (answer_in answers space 1)) → IsFirstWith request links answers
-first_with request links answers realm space plain first second is holds =
+first_with request links answers realm space plain reads first second is holds =
     let given = some_login (answer_in answers space 1) holds in
     record {
       plain = plain;
       expected = record {
         realm = realm;
+        reads = reads;
         login = given.0;
         first = first;
         second = second;

@@ -16,10 +16,11 @@ use Rattle.session_text.specs.declared.session.Session.{Session}
 use Rattle.auth_runs.specs.declared.event.Event.{Event}
 use Rattle.auth_runs.specs.Runs.{Run, history, trace, AreOnce, Each, made_by, calls_of}
 use Rattle.auth_controller.specs.FirstPath.{IsPlain, first_gift, lone_roster, nth_link, server_space, ended, all_events}
+use Rattle.auth_controller.specs.Challenges.{realm_field, realm_in}
 use Rattle.auth_controller.specs.Settings.{setting_of}
 use Rattle.auth_controller.specs.Traces.{IsTrace}
 use Rattle.auth_controller.specs.Heard.{IsHeard, IsAnswered, challenge_text, ok_text}
-use Rattle.auth_controller.proofs.ReplyLemmas.{bytes_same, realm_read, challenge_heard}
+use Rattle.auth_controller.proofs.ReplyLemmas.{bytes_same, challenge_heard}
 use Rattle.auth_cli.specs.Headline.{IsRunOf, IsTraceIn, recorded}
 use Rattle.auth_cli.specs.Served.{first_run, empty_run}
 
@@ -40,13 +41,13 @@ once_by seed request realm login caller false e = rw e refl
 once_run : (seed : List ℕ) (request : Request) (realm : List ℕ) (login : Login) → AreOnce 1 (first_run seed request realm login)
 once_run seed request realm login caller = once_by seed request realm login caller (1 == caller) refl
 
-trace_run : (seed : List ℕ) (request : Request) (realm : List ℕ) (login : Login) → IsPlain request → IsTraceIn (first_run seed request realm login) 1
-trace_run seed request realm login plain =
+trace_run : (seed : List ℕ) (request : Request) (realm : List ℕ) (login : Login) → IsPlain request → realm_in (realm_field realm) ≡ Some realm → IsTraceIn (first_run seed request realm login) 1
+trace_run seed request realm login plain reads =
     let p = bytes_same request.partition in
     let h = bytes_same request.place.origin.host in
     let n = eq-eqb request.place.origin.port request.place.origin.port refl in
     let r = bytes_same realm in
-    let q = realm_read realm in
+    let q = reads in
     (request, refl, (((((((((((((((tt, (Begun, refl, refl)), (Nothing, refl, refl)), refl), rw plain.no_proxy refl), (_, refl)), rw (q, p, h, n, r) (Lead 1 1, refl, refl)), (_, refl)), (1, Given first_gift 0, omega arith, refl, refl)), refl), rw plain.no_proxy refl), (_, refl)), (Noted, refl, refl)), (Ended, refl, refl)), refl), refl))
 
 heard_run : (seed : List ℕ) (request : Request) (realm : List ℕ) (login : Login) (links : List (List (List ℕ)))
@@ -63,11 +64,11 @@ answered_run seed request realm login answers given = (tt, (tt, (tt, (sym given,
 
 -- the run of the first path
 pub served : (asked : Session) (seed : List ℕ) (request : Request) (realm : List ℕ) (login : Login)
-    → asked.roster ≡ lone_roster request → IsPlain request
+    → asked.roster ≡ lone_roster request → IsPlain request → realm_in (realm_field realm) ≡ Some realm
     → stream_in asked.links (nth_link 1) ≡ challenge_text realm → stream_in asked.links (nth_link 2) ≡ ok_text
     → answer_in asked.answers (server_space request realm) 1 ≡ Some login
     → IsRunOf asked 1 seed (first_run seed request realm login)
-served asked seed request realm login lone plain first second given = record {
+served asked seed request realm login lone plain reads first second given = record {
   same_roster = sym lone;
   same_seed = refl;
   legal = legal_run seed request realm login plain;
@@ -75,7 +76,7 @@ served asked seed request realm login lone plain first second given = record {
   met = refl;
   once = once_run seed request realm login;
   whole = ap (λ roster. length roster.requests) (sym lone);
-  traces = λ r low high. let e : 1 ≡ r = omega (arith, low, high) in subst (λ k. IsTraceIn (first_run seed request realm login) k) e (trace_run seed request realm login plain);
+  traces = λ r low high. let e : 1 ≡ r = omega (arith, low, high) in subst (λ k. IsTraceIn (first_run seed request realm login) k) e (trace_run seed request realm login plain reads);
   heard = λ r low high. let e : 1 ≡ r = omega (arith, low, high) in
       subst (λ k. IsHeard (recorded asked.links) k (reverse (trace (first_run seed request realm login) k))) e (heard_run seed request realm login asked.links first second);
   answered = answered_run seed request realm login (answer_in asked.answers) given;

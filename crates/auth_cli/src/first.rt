@@ -8,7 +8,7 @@ ghost use Rattle.auth_controller.specs.FirstPath.{IsPlain, lone_roster, nth_link
 ghost use Rattle.auth_controller.specs.Heard.{challenge_text, ok_text};
 ghost use Rattle.auth_cli.specs.Served.{IsFirstWith};
 
-use auth_controller::{is_ok_text, realm_sent};
+use auth_controller::{is_ok_text, is_readable, realm_sent};
 use auth_text::{Bytes, NoMemory};
 use link_trait::{Answers, Asked, LinkName, Links, Prompter, ScriptPrompter, stream_in};
 use spaces::{Method, Request, Roster, Scheme, Site, Space, Target};
@@ -108,6 +108,10 @@ pub(crate) fn is_first(
     match recorded_realm(alloc, links)? {
         None => Ok(false),
         Some(realm) => {
+            let readable = is_readable(alloc, realm.as_slice())?;
+            if !readable {
+                return Ok(false);
+            }
             let space = server_space(request, realm)?;
             let answered = is_answered(alloc, answers, &space)?;
             Ok(answered)

@@ -1,11 +1,15 @@
 -- The two replies are read as what they are.
-use Rattle.std.proofs.Common.{◌≡◌, ℕ, ◌+◌, ◌-◌, ◌≤◌, Bool, true, false, List, [], ◌∷◌, ◌++◌, length, take, drop, refl, sym, ◌∙◌, ap, arith, append_assoc, codes, bytes_eq, nat_eq, Some, None, IsTrue, if◌then◌else◌}
+use Rattle.std.proofs.Common.{◌≡◌, ℕ, ◌+◌, ◌-◌, ◌≤◌, Bool, true, false, List, [], ◌∷◌, ◌++◌, length, take, drop, refl, sym, ◌∙◌, ap, arith, append_assoc, codes, bytes_eq, nat_eq, Some, None, IsTrue, slice_index_or, if◌then◌else◌}
 use Rattle.std.proofs.lemmas.Grind.{common_steps}
 use Rattle.std.proofs.Math.Seq.{take-append_seam}
 use Rattle.std.specs.declared.option.Option.{Option}
 use Rattle.wire_head.specs.declared.reply.Reply.{Reply}
-use Rattle.auth_controller.specs.Challenges.{realm_field, realm_in, if_field}
+use Rattle.auth_controller.specs.Challenges.{realm_field}
 use Rattle.auth_controller.specs.Heard.{IsChallenge, challenge_text, challenge_back, challenge_reply, realm_sent, if_sent, reply_in, ok_reply, ok_text}
+
+-- the first field of a reply
+abbrev pub first_field : Reply → List ℕ
+first_field reply = slice_index_or reply.fields 0 []
 
 pub bytes_same : (xs : List ℕ) → bytes_eq xs xs ≡ true
 bytes_same [] = refl
@@ -20,14 +24,20 @@ middle_field realm =
     let len : length (realm_field realm) ≡ 14 + length realm = grind (arith, common_steps) in
     front realm (34 ∷ []) (length (realm_field realm) - 14) (omega (arith, len))
 
-pub realm_read : (realm : List ℕ) → realm_in (realm_field realm) ≡ Some realm
-realm_read realm =
-    ap (if_field (realm_field realm)) (middle_field realm) ∙ ap (λ b. if b then Some realm else None) (bytes_same (realm_field realm))
+-- the realm is one
+pub same_field : (a b : List ℕ) → realm_field a ≡ realm_field b → a ≡ b
+same_field a b is = sym (middle_field a) ∙ ap (λ v. take (length v - 14) (drop 13 v)) is ∙ middle_field b
 
 middle_challenge : (realm : List ℕ) → take (length (challenge_text realm) - 82) (drop 58 (challenge_text realm)) ≡ realm
 middle_challenge realm =
     let len : length (challenge_text realm) ≡ 82 + length realm = grind (arith, common_steps) in
     front realm challenge_back (length (challenge_text realm) - 82) (omega (arith, len))
+
+pub same_challenge : (a b : List ℕ) → challenge_text a ≡ challenge_text b → a ≡ b
+same_challenge a b is = sym (middle_challenge a) ∙ ap (λ v. take (length v - 82) (drop 58 v)) is ∙ middle_challenge b
+
+pub same_reply : (a b : List ℕ) → challenge_reply a ≡ challenge_reply b → a ≡ b
+same_reply a b is = same_field a b (ap first_field is)
 
 pub realm_heard : (realm : List ℕ) → realm_sent (challenge_text realm) ≡ Some realm
 realm_heard realm =

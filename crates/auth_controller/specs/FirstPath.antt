@@ -27,6 +27,7 @@ use Rattle.link_trait.specs.declared.dialer.Dial.{Dial}
 use Rattle.link_trait.specs.declared.dialer.Traffic.{Traffic}
 use Rattle.link_trait.specs.declared.prompts.Ask.{Ask}
 use Rattle.auth_controller.specs.Links.{Written, stream_of, sent_of}
+use Rattle.auth_controller.specs.Challenges.{realm_field, realm_in}
 use Rattle.auth_controller.specs.Heard.{ok_reply, challenge_reply, challenge_text, ok_text}
 use Rattle.auth_controller.specs.Traces.{credentials}
 
@@ -109,6 +110,7 @@ answer_of answers space ordinal = option_and_then (λ answer. answer space ordin
 -- the links give a challenge and then the other reply, and the prompt of the challenge's space is answered
 pub record IsExpected (request : Request) (streams : Option (LinkName → List ℕ)) (answers : Option (ProtectionSpace → ℕ → Option Login)) : Type 0 where
   pub realm : List ℕ
+  pub reads : realm_in (realm_field realm) ≡ Some realm
   pub login : Login
   pub first : stream_of streams (nth_link 1) ≡ challenge_text realm
   pub second : stream_of streams (nth_link 2) ≡ ok_text

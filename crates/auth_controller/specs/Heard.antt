@@ -14,7 +14,7 @@ use Rattle.wire_head.specs.RequestHeads.{crlf}
 use Rattle.wire_head.specs.declared.reply.Reply.{Reply}
 use Rattle.auth_runs.specs.declared.event.Event.{Event}
 use Rattle.auth_runs.specs.declared.event.Event.TheVariants.{Replied}
-use Rattle.auth_controller.specs.Challenges.{realm_field}
+use Rattle.auth_controller.specs.Challenges.{realm_field, realm_in}
 
 -- REPLIES: so far a 401 with one Basic challenge and a 200 with two bytes
 
@@ -44,10 +44,11 @@ if_sent stream realm = if bytes_eq (challenge_text realm) stream then Some realm
 abbrev pub realm_sent : List ℕ → Option (List ℕ)
 realm_sent stream = if_sent stream (take (length stream - 82) (drop 58 stream))
 
--- the stream is a challenge
+-- the stream is a challenge, whose field reads as its realm
 pub record IsChallenge (stream : List ℕ) : Type 0 where
   pub realm : List ℕ
   pub is : stream ≡ challenge_text realm
+  pub reads : realm_in (realm_field realm) ≡ Some realm
 
 abbrev pub ok_reply : Reply
 ok_reply = record { code = 200; stays = true; body = 2; fields = [] }
@@ -55,10 +56,11 @@ ok_reply = record { code = 200; stays = true; body = 2; fields = [] }
 abbrev pub challenge_reply : List ℕ → Reply
 challenge_reply realm = record { code = 401; stays = true; body = 0; fields = realm_field realm ∷ [] }
 
--- the reply is a challenge
+-- the reply is a challenge, whose field reads as its realm
 pub record IsChallengeReply (reply : Reply) : Type 0 where
   pub realm : List ℕ
   pub is : reply ≡ challenge_reply realm
+  pub reads : realm_in (realm_field realm) ≡ Some realm
 
 -- the reply that a stream is
 abbrev pub reply_in : List ℕ → Option Reply

@@ -3,11 +3,13 @@
 #![tactic(auto)]
 
 mod book_calls;
+mod challenges;
 mod exchange;
 mod gear;
 mod replies;
 mod serve;
 
+pub use challenges::is_readable;
 pub use gear::Gear;
 pub use replies::{is_ok_text, realm_sent};
 pub use serve::serve_challenge;

@@ -1,7 +1,7 @@
 //! The replies that are read so far: a 401 with one Basic challenge, and a 200 with two bytes.
 
 ghost use Rattle.std.specs.Prelude.{◌≡◌, ◌-◌, ◌++◌, ◌∷◌, [], take, drop, length, IfOk, None, Some, option_map, bytes_eq, if◌then◌else◌};
-ghost use Rattle.auth_controller.specs.Challenges.{realm_field, realm_in};
+ghost use Rattle.auth_controller.specs.Challenges.{realm_field};
 ghost use Rattle.auth_controller.specs.Heard.{challenge_text, challenge_reply, ok_text, ok_reply, if_sent, realm_sent, reply_in};
 
 use auth_runs::Reply;
@@ -32,27 +32,14 @@ fn challenge_text(alloc: Global, realm: &[u8]) -> Result<Bytes, NoMemory>
     Ok(text)
 }
 
-fn realm_field(alloc: Global, realm: &[u8]) -> Result<Bytes, NoMemory>
+/// The field value of a Basic challenge of that realm.
+pub(crate) fn realm_field(alloc: Global, realm: &[u8]) -> Result<Bytes, NoMemory>
     ensures { IfOk result (λ text. text ≡ realm_field realm.now) }
 {
     let mut text = Bytes::from_slice(alloc, b"Basic realm=\"")?;
     text.extend_from_slice(realm)?;
     text.extend_from_slice(b"\"")?;
     Ok(text)
-}
-
-/// The realm of a challenge's field value, where it is one.
-pub(crate) fn realm_in(alloc: Global, value: &[u8]) -> Result<Option<Bytes>, NoMemory>
-    ensures { IfOk result (λ realm. realm ≡ realm_in value.now) }
-{
-    let realm = middle(value, 13, 14);
-    let field = realm_field(alloc, realm)?;
-    if field.as_slice() == value {
-        let realm = Bytes::from_slice(alloc, realm)?;
-        Ok(Some(realm))
-    } else {
-        Ok(None)
-    }
 }
 
 fn is_same(text: &[u8], stream: &[u8]) -> bool

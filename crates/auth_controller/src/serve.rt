@@ -10,14 +10,15 @@ ghost use Rattle.auth_events.specs.declared.journal.Call.TheVariants.{Begin, Pre
 ghost use Rattle.auth_events.specs.declared.journal.BookReply.TheVariants.{Begun, Nothing, Lead, Given, Noted, Ended};
 ghost use Rattle.spaces.specs.declared.site.Target.TheVariants.{Server};
 ghost use Rattle.auth_controller.specs.Traces.{credentials};
-ghost use Rattle.auth_controller.specs.Challenges.{realm_field};
+ghost use Rattle.auth_controller.specs.Challenges.{realm_field, realm_in};
 ghost use Rattle.auth_controller.specs.Heard.{IsChallenge, IsChallengeReply, challenge_text, challenge_reply, ok_text, ok_reply};
 ghost use Rattle.auth_controller.specs.Links.{stream_of, heard_of, sent_of};
 ghost use Rattle.auth_controller.specs.FirstPath.{IsPlain, IsExpected, IsServed, lone_roster, server_space, first_gift, preempted, answered, ended, first_head, second_head, nth_link, answer_of, both_dialed, both_written};
 
 use crate::book_calls;
+use crate::challenges::realm_in;
 use crate::exchange::exchange;
-use crate::replies::{realm_in, reply_in};
+use crate::replies::reply_in;
 use auth_events::{BookReply, Call, Controller};
 use auth_runs::{AskSeen, Event, Events, Outcome, Reply, Trace};
 use auth_text::{Bytes, Identity, Items, NoMemory};
@@ -229,7 +230,7 @@ fn ok_in(alloc: Global, stream: &[u8]) -> Result<Reply, NoMemory>
 }
 
 fn realm_in_field(alloc: Global, field: &[u8]) -> Result<Option<Bytes>, NoMemory>
-    ensures { IfOk result (λ found. (realm : List ℕ) → field.now ≡ realm_field realm → found ≡ Some realm) }
+    ensures { IfOk result (λ found. (realm : List ℕ) → field.now ≡ realm_field realm → realm_in (realm_field realm) ≡ Some realm → found ≡ Some realm) }
 {
     let realm = realm_in(alloc, field)?;
     Ok(realm)

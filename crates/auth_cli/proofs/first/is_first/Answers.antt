@@ -9,7 +9,8 @@ pub returns-in_ok-answered-in-Some : goal.returns-in_ok-answered-in-Some
 returns-in_ok-answered-in-Some c holds =
     let heard = c.in_ok-recorded_realm.ensures in
     let plain : c.is_plain.result ≡ true = search in
-    first_with _ _ _ c.in-Some.realm c.in_ok-space-in-Some.space (c.is_plain.ensures plain)
+    let readable : c.in_ok-readable-in-Some.readable ≡ true = search in
+    first_with _ _ _ c.in-Some.realm c.in_ok-space-in-Some.space (c.is_plain.ensures plain) (rw c.as_slice.ensures at (c.in_ok-readable-in-Some.ensures readable))
     (subst (λ found. IfSome found (λ realm. stream_in c.args.links.now (nth_link 1) ≡ challenge_text realm)) c.in-Some.is heard.first)
     (subst (λ found. IfSome found (λ realm. stream_in c.args.links.now (nth_link 2) ≡ ok_text)) c.in-Some.is heard.second)
     c.in_ok-space-in-Some.ensures (c.in_ok-answered-in-Some.ensures holds)

@@ -3,7 +3,7 @@ use Rattle.auth_controller.specs.FirstPath.{server_space}
 use Rattle.auth_controller.proofs.serve.space_in.Goals as goal
 
 pub realm_of-requires : goal.realm_of-requires
-realm_of-requires c = record { realm = c.requires.realm; is = c.in_ok-reply.ensures c.requires.realm c.requires.is }
+realm_of-requires c = record { realm = c.requires.realm; is = c.in_ok-reply.ensures c.requires.realm c.requires.is; reads = c.requires.reads }
 
 pub returns : goal.returns
 returns c realm text =

@@ -1,6 +1,6 @@
 -- What was told is what the parts are.
 use Rattle.std.proofs.Common.{sym, ◌∙◌}
-use Rattle.auth_events.proofs.Laws.{told_names}
+use Rattle.auth_events.proofs.LedgerLaws.{told_names}
 use Rattle.auth_events.proofs.Weave.{journal-weave}
 use Rattle.plain_book.proofs.book.PlainBook.into_parts.Goals as goal
 
