@@ -17,7 +17,7 @@ use Rattle.auth_events.specs.Past.{gift_given, current, open_lead, evicted, lead
 use Rattle.auth_events.specs.Book.{IsLegalPast, IsStep, allowed_call, answer, first_choice, has_url_identity, is_server, target_of, was_url_told, was_default_told, scheme_is, is_negotiate, is_allowed_origin, is_rival, select_answer, given_answer, next_gift, space_of_prompt, is_url, is_that_gift, is_led_by, terms_selected}
 use Rattle.auth_events.specs.Identities.{giving, identity_given, identity, text_in}
 use Rattle.auth_events.proofs.Numbers.{and_left, and_right, numbered_suc}
-use Rattle.auth_events.proofs.MoreNames.{given_call}
+use Rattle.auth_events.proofs.NamedThings.{given_call}
 
 chosen_url : (url : Bool) (held : Option Gift) (ambient : Bool) (led : Option Entry) (rival : ℕ → Bool) (past : List Entry) (s : ℕ) → IsTrue (is_url (select_answer rival past s (first_choice url held ambient led))) → IsTrue url
 chosen_url true held ambient led rival past s told = refl

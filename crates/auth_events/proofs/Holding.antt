@@ -11,6 +11,7 @@ use Rattle.std.proofs.lemmas.List.Sums.{length-filter, count_by-le-length}
 use Rattle.spaces.specs.Paths.{dir_of, covers}
 use Rattle.spaces.specs.declared.roster.Roster.{Roster}
 use Rattle.auth_events.specs.declared.journal.Gift.{Gift}
+use Rattle.auth_events.proofs.Numbers.{is_not}
 use Rattle.auth_events.specs.declared.journal.Entry.{Entry}
 use Rattle.auth_events.specs.Tables.{Tables}
 use Rattle.auth_events.specs.Past.{current, live, gives, takes_away, gift_given, is_of}
@@ -115,10 +116,6 @@ none_of p (d ∷ ds) none = at (p d) refl none (λ rest. none_of p ds rest)
     at true is rest before = absurd (false≢true (sym rest))
     at false is rest before = All-cons (λ e. p e ≡ false) d ds is (before rest)
 
-not_covers : (b : Bool) → not b ≡ true → b ≡ false
-not_covers true is = absurd (false≢true is)
-not_covers false is = refl
-
 abbrev uncovered : Noted_dir → List Noted_dir → List Noted_dir
 uncovered noted ds = filter (λ held. not (covers noted.dir held.dir)) ds
 
@@ -138,7 +135,7 @@ with_dir_fits noted ds fit = at (list_any (λ held. covers held.dir noted.dir) d
           apart =
               all_pairs_push AreApart (with_room (uncovered noted ds)) noted
               (room_apart (uncovered noted ds) (AllPairs-filter AreApart (λ held. not (covers noted.dir held.dir)) ds fit.apart))
-              (λ k d within. (over k d within, not_covers _ (under k d within)));
+              (λ k d within. (over k d within, is_not _ (under k d within)));
         }
 
 no_dirs : AreFewAndApart []

@@ -1,5 +1,5 @@
 -- Numbered things: one thing more, and the first that passes a test.
-use Rattle.std.proofs.Common.{◌≡◌, ℕ, zero, suc, ◌+◌, ◌-◌, ◌<◌, ◌≤◌, Bool, true, false, ◌&&◌, cond, eqb, List, [], ◌∷◌, ◌++◌, length, refl, ap, sym, subst, ◌∙◌, inl, inr, ◌⊎◌, arith, Option, Some, None}
+use Rattle.std.proofs.Common.{◌≡◌, ℕ, zero, suc, ◌+◌, ◌-◌, ◌<◌, ◌≤◌, Bool, true, false, not, ◌&&◌, ◌||◌, cond, eqb, List, [], ◌∷◌, ◌++◌, length, refl, ap, sym, subst, ◌∙◌, inl, inr, ◌⊎◌, arith, Option, Some, None}
 use Rattle.std.specs.Prelude.{IsTrue, ◌==◌, option_map, unwrap_or, is_some, slice_get, IfSome}
 use Rattle.std.specs.List.{position_from}
 use Rattle.std.proofs.lemmas.Bool.Decides.{nat_tests}
@@ -21,6 +21,18 @@ and_right false b both = absurd (false≢true both)
 
 pub both : (a b : Bool) → IsTrue a → IsTrue b → IsTrue (a && b)
 both a b is_a is_b = cc
+
+pub or_left : (a b : Bool) → IsTrue a → IsTrue (a || b)
+or_left true b is = refl
+or_left false b is = absurd (false≢true is)
+
+pub or_right : (a b : Bool) → IsTrue b → IsTrue (a || b)
+or_right true b is = refl
+or_right false b is = is
+
+pub is_not : (b : Bool) → IsTrue (not b) → b ≡ false
+is_not true is = absurd (false≢true is)
+is_not false is = refl
 
 is_some_within : {A : Type 0} (xs : List A) (j : ℕ) → IsTrue (is_some (slice_get xs j)) → j < length xs
 is_some_within [] j named = absurd (false≢true named)

@@ -19,7 +19,7 @@ use Rattle.auth_events.specs.Past.{end, is_lead, open_lead, prompt_led, selects,
 use Rattle.auth_events.specs.Book.{Choice, IsLegalPast, allowed_call, answer, choice, first_choice, is_led_by, is_rival, select_answer, takes}
 use Rattle.auth_events.specs.Book.Choice.{By_url, By_cache, By_default, By_following, By_leading}
 use Rattle.auth_events.specs.Laws.{HasOneOpenPrompt, IsSettledOnce, IsTakenFrom, leads_open}
-use Rattle.auth_events.proofs.Numbers.{and_left, and_right}
+use Rattle.auth_events.proofs.Numbers.{and_left, and_right, is_not}
 use Rattle.auth_events.proofs.Same.{number_same}
 
 -- COUNTS
@@ -81,10 +81,6 @@ select_leads rival past s (By_cache gift) led = absurd (false≢true led)
 select_leads rival past s By_default led = absurd (false≢true led)
 select_leads rival past s (By_following p) led = absurd (false≢true led)
 select_leads rival past s By_leading led = refl
-
-is_not : (b : Bool) → IsTrue (not b) → b ≡ false
-is_not true is = absurd (false≢true is)
-is_not false is = refl
 
 -- an answer that stands in the past stands there after one entry more
 taken_later : (entry : Entry) (past : List Entry) (p : ℕ) (reply : BookReply) → IsTakenFrom past p reply → IsTakenFrom (entry ∷ past) p reply

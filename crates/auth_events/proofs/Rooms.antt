@@ -11,7 +11,7 @@ use Rattle.auth_events.specs.Tables.{Tables}
 use Rattle.auth_events.specs.Past.{current, live, live_spaces, spaces_given, givings, gives, takes_away, gift_given, evicted_by, first_space, is_of, victim, greatest_by, greater_by, age, live_rivals}
 use Rattle.auth_events.specs.Book.{IsLegalPast, next_gift}
 use Rattle.auth_events.specs.Laws.{AreFewLive, is_site_named}
-use Rattle.auth_events.proofs.Numbers.{both}
+use Rattle.auth_events.proofs.Numbers.{both, or_right}
 use Rattle.auth_events.proofs.Same.{number_same, number_refl}
 use Rattle.auth_events.proofs.Holding.{current_taken, current_kept}
 use Rattle.auth_events.proofs.Prompting.{one_if}
@@ -133,10 +133,6 @@ greatest_passes f p (x ∷ xs) some = at (p x) refl some (λ more. greatest_pass
 sum_both : (f g : ℕ → ℕ) (xs : List ℕ) → sum_by (λ x. f x + g x) xs ≡ sum_by f xs + sum_by g xs
 sum_both f g [] = refl
 sum_both f g (x ∷ xs) = omega (arith, sum_by-cons (λ y. f y + g y) x xs, sum_by-cons f x xs, sum_by-cons g x xs, sum_both f g xs)
-
-or_right : (a b : Bool) → IsTrue b → IsTrue (a || b)
-or_right true b is = refl
-or_right false b is = is
 
 is_nonzero : (v : ℕ) → v ≢ 0 → IsTrue (not (v == 0))
 is_nonzero v some = grind (arith, nat_tests)

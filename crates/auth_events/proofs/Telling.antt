@@ -25,7 +25,7 @@ use Rattle.auth_events.specs.Past.{current, end, gift_given, gives, is_lead, is_
 use Rattle.auth_events.specs.Book.{Choice, Found, Noted_dir, IsLegalPast, allowed_call, answer, best_found, better, by_path, choice, dirs, first_choice, found_in, gift_told, is_led_by, is_of_site, is_rival, is_site_of, longer, next_gift, own, path_of, preempt_answer, ready, select_answer, space_by_path, space_named, space_of_prompt, space_selected, takes, target_of}
 use Rattle.auth_events.specs.Book.Choice.{By_url, By_cache, By_default, By_following, By_leading}
 use Rattle.auth_events.specs.Laws.{AreToldAtHome, IsAsked, is_site_named}
-use Rattle.auth_events.proofs.Numbers.{and_left, and_right, both}
+use Rattle.auth_events.proofs.Numbers.{and_left, and_right, both, or_left, or_right}
 use Rattle.auth_events.proofs.Same.{number_same, number_refl, site_same, site_refl}
 use Rattle.auth_events.proofs.Homes.{answered_led, leader_site, selected_site}
 use Rattle.auth_events.proofs.Leading.{IsPromptOf, leads_selected, prompt_of_lead, prompt_stays}
@@ -33,14 +33,6 @@ use Rattle.auth_events.proofs.Leading.{IsPromptOf, leads_selected, prompt_of_lea
 -- the value of an option that is known
 some_same : {A : Type 0} (x y : A) → Some x ≡ Some y → x ≡ y
 some_same x y is = ap (λ o. unwrap_or o x) is
-
-or_right : (a b : Bool) → IsTrue b → IsTrue (a || b)
-or_right true b is = refl
-or_right false b is = is
-
-or_left : (a b : Bool) → IsTrue a → IsTrue (a || b)
-or_left true b is = refl
-or_left false b is = absurd (false≢true is)
 
 -- THE GIFT THAT A SPACE HOLDS
 
