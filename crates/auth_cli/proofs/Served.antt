@@ -5,6 +5,7 @@ use Rattle.auth_text.specs.Login.{Login}
 use Rattle.spaces.specs.ProtectionSpaces.{ProtectionSpace}
 use Rattle.spaces.specs.declared.roster.Request.{Request}
 use Rattle.spaces.specs.declared.roster.Roster.{Roster}
+use Rattle.auth_events.proofs.Same.{bytes_refl}
 use Rattle.auth_events.specs.Book.{IsLegal}
 use Rattle.auth_events.specs.Fresh.{fresh}
 use Rattle.auth_events.specs.Told.{journal, names_told}
@@ -20,15 +21,15 @@ use Rattle.auth_controller.specs.Challenges.{realm_field, realm_in}
 use Rattle.auth_controller.specs.Settings.{setting_of}
 use Rattle.auth_controller.specs.Traces.{IsTrace}
 use Rattle.auth_controller.specs.Heard.{IsHeard, IsAnswered, challenge_text, ok_text}
-use Rattle.auth_controller.proofs.ReplyLemmas.{bytes_same, challenge_heard}
+use Rattle.auth_controller.proofs.ReplyLemmas.{challenge_heard}
 use Rattle.auth_cli.specs.Headline.{IsRunOf, IsTraceIn, recorded}
 use Rattle.auth_cli.specs.Served.{first_run, empty_run}
 
 legal_run : (seed : List ℕ) (request : Request) (realm : List ℕ) (login : Login) → IsPlain request
     → IsLegal (first_run seed request realm login).roster (first_run seed request realm login).names (history (first_run seed request realm login))
 legal_run seed request realm login plain =
-    let p = bytes_same request.partition in
-    let h = bytes_same request.place.origin.host in
+    let p = bytes_refl request.partition in
+    let h = bytes_refl request.place.origin.host in
     let n = eq-eqb request.place.origin.port request.place.origin.port refl in
     ((((((tt, (refl, refl, refl)), (refl, refl, refl)), (rw (p, h, n) refl, rw plain.no_identity refl, refl)), (refl, refl, refl)), (refl, refl, refl)), (refl, refl, refl))
 
@@ -43,10 +44,10 @@ once_run seed request realm login caller = once_by seed request realm login call
 
 trace_run : (seed : List ℕ) (request : Request) (realm : List ℕ) (login : Login) → IsPlain request → realm_in (realm_field realm) ≡ Some realm → IsTraceIn (first_run seed request realm login) 1
 trace_run seed request realm login plain reads =
-    let p = bytes_same request.partition in
-    let h = bytes_same request.place.origin.host in
+    let p = bytes_refl request.partition in
+    let h = bytes_refl request.place.origin.host in
     let n = eq-eqb request.place.origin.port request.place.origin.port refl in
-    let r = bytes_same realm in
+    let r = bytes_refl realm in
     let q = reads in
     (request, refl, (((((((((((((((tt, (Begun, refl, refl)), (Nothing, refl, refl)), refl), rw plain.no_proxy refl), (_, refl)), rw (q, p, h, n, r) (Lead 1 1, refl, refl)), (_, refl)), (1, Given first_gift 0, omega arith, refl, refl)), refl), rw plain.no_proxy refl), (_, refl)), (Noted, refl, refl)), (Ended, refl, refl)), refl), refl))
 

@@ -158,7 +158,7 @@ pub fn authfetch_alone<S: Source, K: Sink>(
 
 /// Runs the command that the words are. It hands them to `authfetch_alone`, whose clauses are its own,
 /// and gives the gears back as they came: no command uses gears so far.
-pub fn authfetch<R, S: Source, K: Sink, D: Dialer, T: Tokens>(
+pub fn authfetch<R, S: Source, K: Sink, D: Dialer + Send, T: Tokens + Send>(
     _rt: &R,
     alloc: Global,
     words: &[Word],

@@ -2,6 +2,7 @@
 use Rattle.std.proofs.Common.{◌≡◌, ℕ, ◌+◌, ◌-◌, ◌≤◌, Bool, true, false, List, [], ◌∷◌, ◌++◌, length, take, drop, refl, sym, ◌∙◌, ap, arith, append_assoc, codes, bytes_eq, nat_eq, Some, None, IsTrue, slice_index_or, if◌then◌else◌}
 use Rattle.std.proofs.lemmas.Grind.{common_steps}
 use Rattle.std.proofs.Math.Seq.{take-append_seam}
+use Rattle.auth_events.proofs.Same.{bytes_refl}
 use Rattle.std.specs.declared.option.Option.{Option}
 use Rattle.wire_head.specs.declared.reply.Reply.{Reply}
 use Rattle.auth_controller.specs.Challenges.{realm_field}
@@ -10,10 +11,6 @@ use Rattle.auth_controller.specs.Heard.{IsChallenge, challenge_text, challenge_b
 -- the first field of a reply
 abbrev pub first_field : Reply → List ℕ
 first_field reply = slice_index_or reply.fields 0 []
-
-pub bytes_same : (xs : List ℕ) → bytes_eq xs xs ≡ true
-bytes_same [] = refl
-bytes_same (x ∷ xs) = grind (arith, bytes_same xs)
 
 pub front : (xs ys : List ℕ) (n : ℕ) → n ≡ length xs → take n (xs ++ ys) ≡ xs
 front xs ys n is = rw is (take-append_seam xs ys)
@@ -41,7 +38,7 @@ same_reply a b is = same_field a b (ap first_field is)
 
 pub realm_heard : (realm : List ℕ) → realm_sent (challenge_text realm) ≡ Some realm
 realm_heard realm =
-    ap (if_sent (challenge_text realm)) (middle_challenge realm) ∙ ap (λ b. if b then Some realm else None) (bytes_same (challenge_text realm))
+    ap (if_sent (challenge_text realm)) (middle_challenge realm) ∙ ap (λ b. if b then Some realm else None) (bytes_refl (challenge_text realm))
 
 pub challenge_heard : (realm : List ℕ) → reply_in (challenge_text realm) ≡ Some (challenge_reply realm)
 challenge_heard realm = rw (realm_heard realm) refl
