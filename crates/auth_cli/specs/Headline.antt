@@ -13,7 +13,7 @@ use Rattle.session_text.specs.Counts.{counts_line}
 use Rattle.auth_runs.specs.Runs.{Run, history, trace, AreOnce, Each, are_names_met}
 use Rattle.auth_controller.specs.Settings.{setting_of}
 use Rattle.auth_controller.specs.Traces.{IsTrace}
-use Rattle.auth_controller.specs.Heard.{Stream, IsHeard, IsAnswered}
+use Rattle.auth_controller.specs.Heard.{Stream, ended, IsHeard, IsAnswered}
 use Rattle.auth_report.specs.Report.{text}
 use Rattle.auth_cli.specs.declared.words.Command.{Command}
 use Rattle.auth_cli.specs.declared.words.Command.TheVariants.{Check, Alone}
@@ -27,7 +27,13 @@ IsTraceIn run r =
 
 -- the recorded stream of a link, whose end is recorded too
 abbrev pub recorded : List (List (List ℕ)) → LinkName → Stream
-recorded links name = record { bytes = stream_in links name; ended = true }
+recorded links name = ended (stream_in links name)
+
+-- the replies of the run's request of that number are those of its recorded links
+abbrev pub IsHeardIn : List (List (List ℕ)) → Run → ℕ → Type 0
+IsHeardIn links run r =
+    (request : Request) × (numbered run.roster.requests r ≡ Some request)
+    × IsHeard (recorded links) request.method r (reverse (trace run r))
 
 -- one run of the session by that many callers
 pub record IsRunOf (asked : Session) (callers : ℕ) (seed : List ℕ) (run : Run) : Type 0 where
@@ -45,7 +51,7 @@ pub record IsRunOf (asked : Session) (callers : ℕ) (seed : List ℕ) (run : Ru
   pub whole : length run.traces ≡ length asked.roster.requests
   pub traces : (r : ℕ) → 1 ≤ r → r ≤ length run.traces → IsTraceIn run r
   -- replies are those of the recorded links
-  pub heard : (r : ℕ) → 1 ≤ r → r ≤ length run.traces → IsHeard (recorded asked.links) r (reverse (trace run r))
+  pub heard : (r : ℕ) → 1 ≤ r → r ≤ length run.traces → IsHeardIn asked.links run r
   -- each prompt has the session's answer, which its waiters take
   pub answered : Each (λ entry. IsAnswered (answer_in asked.answers) run.names run.journal entry.call) run.journal
 

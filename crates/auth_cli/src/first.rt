@@ -1,27 +1,25 @@
 //! The session of one request that meets one Basic challenge, for as long as no other session with
 //! requests is served. All of it can be taken out then.
 
-ghost use Rattle.std.specs.Prelude.{◌≡◌, true, IsTrue, is_some, IfOk, IfSome, List, ℕ};
+ghost use Rattle.std.specs.Prelude.{◌≡◌, true, IsTrue, is_some, IfOk, IfSome};
 ghost use Rattle.link_trait.specs.Links.{stream_in};
 ghost use Rattle.link_trait.specs.Prompts.{answer_in};
 ghost use Rattle.auth_controller.specs.FirstPath.{IsPlain, lone_roster, nth_link, server_space};
-ghost use Rattle.auth_controller.specs.Heard.{challenge_text, ok_text};
-ghost use Rattle.auth_cli.specs.Served.{IsFirstWith};
+ghost use Rattle.auth_controller.specs.Heard.{ended, reply_in};
+ghost use Rattle.auth_cli.specs.Served.{HasChallenge, HasLast, IsFirstWith};
 
-use auth_controller::{is_ok_text, is_readable, realm_sent};
+use auth_controller::{first_realm, reply_in};
+use auth_runs::Reply;
 use auth_text::{Bytes, NoMemory};
 use link_trait::{Answers, Asked, LinkName, Links, Prompter, ScriptPrompter, stream_in};
 use spaces::{Method, Request, Roster, Scheme, Site, Space, Target};
 use std::alloc::Global;
 
-/// A GET that goes to its server, and whose URL has no identity.
+/// A request that goes to its server, and whose URL has no identity.
 fn is_plain(request: &Request) -> bool
     ensures { result ≡ true → IsPlain request.now }
 {
-    if request.method != Method::Get || request.proxy.is_some() {
-        return false;
-    }
-    request.place.identity.is_none()
+    request.proxy.is_none() && request.place.identity.is_none()
 }
 
 /// The one request of a roster that has no more, and that allows no default identity.
@@ -37,33 +35,45 @@ pub(crate) fn lone_request(roster: &Roster) -> Option<&Request>
     }
 }
 
-/// The recorded stream of the nth link of the first request.
-fn nth_stream(links: &Links, nth: u32) -> &[u8]
-    ensures { result.now ≡ stream_in links.now (nth_link nth) }
+/// The reply that the nth recorded link of the first request shows, where it shows one.
+fn nth_reply(
+    alloc: Global,
+    method: Method,
+    links: &Links,
+    nth: u32,
+) -> Result<Option<Reply>, NoMemory>
+    ensures { IfOk result (λ reply. reply ≡ reply_in method (ended (stream_in links.now (nth_link nth)))) }
 {
-    stream_in(links, LinkName { request: 1, nth })
+    let stream = stream_in(links, LinkName { request: 1, nth });
+    let reply = reply_in(alloc, method, stream)?;
+    Ok(reply)
 }
 
-/// The realm of a recorded challenge, where a stream is one.
-#[tactic(auto, using(crate::proofs::FirstLemmas::sent_is))]
-fn challenge_realm(alloc: Global, stream: &[u8]) -> Result<Option<Bytes>, NoMemory>
-    ensures { IfOk result (λ found. IfSome found (λ realm. stream.now ≡ challenge_text realm)) }
+/// The realm of the challenge that the first link gives, where it gives one.
+#[tactic(auto, using(crate::proofs::FirstLemmas::realm_shown))]
+fn recorded_realm(alloc: Global, method: Method, links: &Links) -> Result<Option<Bytes>, NoMemory>
+    ensures { IfOk result (λ found. IfSome found (λ realm. HasChallenge method links.now realm)) }
 {
-    let realm = realm_sent(alloc, stream)?;
-    Ok(realm)
-}
-
-/// The realm of the recorded challenge, where the second link has the other reply.
-#[tactic(auto, using(crate::proofs::FirstLemmas::is_ok))]
-fn recorded_realm(alloc: Global, links: &Links) -> Result<Option<Bytes>, NoMemory>
-    ensures first { IfOk result (λ found. IfSome found (λ realm. stream_in links.now (nth_link 1) ≡ challenge_text realm)) }
-    ensures second { IfOk result (λ found. IfSome found (λ realm. stream_in links.now (nth_link 2) ≡ ok_text)) }
-{
-    if !is_ok_text(nth_stream(links, 2)) {
-        return Ok(None);
+    match nth_reply(alloc, method, links, 1)? {
+        Some(reply) => {
+            if reply.code != 401 {
+                return Ok(None);
+            }
+            let realm = first_realm(alloc, reply.fields.as_slice())?;
+            Ok(realm)
+        }
+        None => Ok(None),
     }
-    let realm = challenge_realm(alloc, nth_stream(links, 1))?;
-    Ok(realm)
+}
+
+/// Whether the second link gives a reply that is no challenge.
+fn has_last(alloc: Global, method: Method, links: &Links) -> Result<bool, NoMemory>
+    ensures { IfOk result (λ there. there ≡ true → HasLast method links.now) }
+{
+    match nth_reply(alloc, method, links, 2)? {
+        Some(reply) => Ok(reply.code != 401),
+        None => Ok(false),
+    }
 }
 
 fn server_space(request: &Request, realm: Bytes) -> Result<Space, NoMemory>
@@ -105,13 +115,13 @@ pub(crate) fn is_first(
     if !is_plain(request) {
         return Ok(false);
     }
-    match recorded_realm(alloc, links)? {
+    let last = has_last(alloc, request.method, links)?;
+    if !last {
+        return Ok(false);
+    }
+    match recorded_realm(alloc, request.method, links)? {
         None => Ok(false),
         Some(realm) => {
-            let readable = is_readable(alloc, realm.as_slice())?;
-            if !readable {
-                return Ok(false);
-            }
             let space = server_space(request, realm)?;
             let answered = is_answered(alloc, answers, &space)?;
             Ok(answered)

@@ -5,8 +5,8 @@ ghost use Rattle.auth_text.specs.Login.{Login};
 ghost use Rattle.auth_events.specs.Told.{journal, names_told};
 ghost use Rattle.link_trait.specs.Links.{stream_in};
 ghost use Rattle.link_trait.specs.Prompts.{answer_in};
-ghost use Rattle.auth_controller.specs.FirstPath.{lone_roster, nth_link, server_space};
-ghost use Rattle.auth_controller.specs.Heard.{challenge_text};
+ghost use Rattle.auth_controller.specs.FirstPath.{IsChallenge, IsLast, link_in, lone_roster, server_space};
+ghost use Rattle.wire_head.specs.declared.reply.Reply.{Reply};
 ghost use Rattle.auth_cli.specs.Served.{IsFirstWith, first_run};
 ghost use Rattle.auth_cli.specs.Headline.{IsRunOf, IsTextFor};
 
@@ -60,9 +60,11 @@ fn first_run(
 ) -> Result<Run, NoMemory>
     requires lone { roster.now ≡ lone_roster request.now }
     requires first { IsFirstWith request.now links answers.now }
-    ensures { IfOk result (λ run. (realm : List ℕ) (login : Login)
-        → stream_in links (nth_link 1) ≡ challenge_text realm → answer_in answers.now (server_space request.now realm) 1 ≡ Some login
-        → run ≡ first_run seed request.now realm login) }
+    ensures { IfOk result (λ run. (challenge : Reply) (realm : List ℕ) (login : Login) (last : Reply)
+        → IsChallenge request.now.method (link_in (Some (stream_in links)) 1) challenge realm
+        → IsLast request.now.method (link_in (Some (stream_in links)) 2) last
+        → answer_in answers.now (server_space request.now realm) 1 ≡ Some login
+        → run ≡ first_run seed request.now challenge realm login last) }
 {
     let mut book = PlainBook::new(alloc, roster)?;
     let mut dialer = RecordedDialer::new(alloc, links, Calls::new(alloc));

@@ -1,5 +1,5 @@
 -- The challenges of a reply (RFC 7235, section 4.1). So far Basic alone is supported, and the others are passed over.
-use Rattle.std.specs.Prelude.{ℕ, List, [], ◌∷◌, ◌++◌, codes, bytes_eq, Option, Some, None, unwrap_or, if◌then◌else◌}
+use Rattle.std.specs.Prelude.{ℕ, List, [], ◌∷◌, codes, bytes_eq, Option, Some, None, unwrap_or, if◌then◌else◌}
 use Rattle.challenge_tokens.specs.declared.challenge.Challenge.{Challenge}
 use Rattle.challenge_tokens.specs.declared.challenge.Body.{Body}
 use Rattle.challenge_tokens.specs.declared.challenge.Body.TheVariants.{Bare, Token68, Params}
@@ -33,7 +33,3 @@ realm_in value = first_basic (field_read value).challenges
 abbrev pub first_realm : List (List ℕ) → Option (List ℕ)
 first_realm [] = None
 first_realm (value ∷ values) = or_else (realm_in value) (first_realm values)
-
--- the field value of a Basic challenge; 34 is the quote
-abbrev pub realm_field : List ℕ → List ℕ
-realm_field realm = codes "Basic realm=" ++ 34 ∷ realm ++ 34 ∷ []

@@ -1,7 +1,7 @@
 -- What happens to one request that meets one Basic challenge, whose prompt is answered and accepted.
-use Rattle.std.specs.Prelude.{ℕ, ◌≡◌, false, List, [], ◌∷◌, ◌++◌, None, Some, option_and_then}
+use Rattle.std.specs.Prelude.{ℕ, ◌≡◌, true, false, List, [], ◌∷◌, ◌++◌, None, Some, option_and_then}
 use Rattle.auth_text.specs.Login.{Login}
-use Rattle.spaces.specs.declared.roster.Method.TheVariants.{Get}
+use Rattle.spaces.specs.declared.roster.Method.{Method}
 use Rattle.spaces.specs.declared.roster.Request.{Request}
 use Rattle.spaces.specs.declared.roster.Roster.{Roster}
 use Rattle.spaces.specs.declared.site.Target.TheVariants.{Server}
@@ -17,6 +17,7 @@ use Rattle.auth_events.specs.declared.journal.BookReply.TheVariants.{Begun, Noth
 use Rattle.auth_events.specs.declared.told.Told.{Told}
 use Rattle.auth_events.specs.declared.told.Told.TheVariants.{Made, SpaceNamed, TextNamed}
 use Rattle.wire_head.specs.RequestHeads.{head}
+use Rattle.wire_head.specs.declared.reply.Reply.{Reply}
 use Rattle.link_trait.specs.declared.prompts.AskSeen.TheVariants.{Given as AskGiven}
 use Rattle.auth_runs.specs.declared.event.Outcome.TheVariants.{Answered}
 use Rattle.auth_runs.specs.declared.event.Event.{Event}
@@ -27,13 +28,12 @@ use Rattle.link_trait.specs.declared.dialer.Dial.{Dial}
 use Rattle.link_trait.specs.declared.dialer.Traffic.{Traffic}
 use Rattle.link_trait.specs.declared.prompts.Ask.{Ask}
 use Rattle.auth_controller.specs.Links.{Written, stream_of, sent_of}
-use Rattle.auth_controller.specs.Challenges.{realm_field, realm_in}
-use Rattle.auth_controller.specs.Heard.{ok_reply, challenge_reply, challenge_text, ok_text}
-use Rattle.auth_controller.specs.Traces.{credentials}
+use Rattle.auth_controller.specs.Challenges.{first_realm}
+use Rattle.auth_controller.specs.Heard.{Stream, reply_in, ended as ended_stream}
+use Rattle.auth_controller.specs.Traces.{credentials, is_challenge}
 
--- a GET that goes to its server, and whose URL has no identity
+-- it goes to its server, and its URL has no identity
 pub record IsPlain (request : Request) : Type 0 where
-  pub get : request.method ≡ Get
   pub no_proxy : request.proxy ≡ None
   pub no_identity : request.place.identity ≡ None
 
@@ -89,14 +89,17 @@ abbrev pub second_head : Request → Login → List ℕ
 second_head request login =
     head request.method (request_target request.place false) request.place.origin None (Some (credentials login)) false
 
--- the request's events
-abbrev pub all_events : Request → List ℕ → Login → List Event
-all_events request realm login =
+-- the request's events, which end with that code: a challenge, and then another reply
+abbrev pub coded_events : Request → Reply → Login → Reply → ℕ → List Event
+coded_events request challenge login last code =
     Called Begin Begun ∷ Called (Preempt Server) Nothing
-    ∷ Dialed 1 ∷ Headed 1 (first_head request) ∷ Replied 1 (challenge_reply realm)
+    ∷ Dialed 1 ∷ Headed 1 (first_head request) ∷ Replied 1 challenge
     ∷ Called (Select 1 0) (Lead 1 1) ∷ AskedFor 1 AskGiven ∷ Called (Answer 1 1 0) (Given first_gift 0)
-    ∷ Dialed 2 ∷ Headed 2 (second_head request login) ∷ Replied 2 ok_reply
-    ∷ Called (Note first_gift) Noted ∷ Called End Ended ∷ Is_over (Answered 200) ∷ []
+    ∷ Dialed 2 ∷ Headed 2 (second_head request login) ∷ Replied 2 last
+    ∷ Called (Note first_gift) Noted ∷ Called End Ended ∷ Is_over (Answered code) ∷ []
+
+abbrev pub all_events : Request → Reply → Login → Reply → List Event
+all_events request challenge login last = coded_events request challenge login last last.code
 
 -- WHAT THE OUTSIDE SAYS AND TELLS
 
@@ -107,13 +110,29 @@ nth_link n = record { request = 1; nth = n }
 abbrev pub answer_of : Option (ProtectionSpace → ℕ → Option Login) → ProtectionSpace → ℕ → Option Login
 answer_of answers space ordinal = option_and_then (λ answer. answer space ordinal) answers
 
--- the links give a challenge and then the other reply, and the prompt of the challenge's space is answered
+-- the whole stream of a link, where streams are known
+abbrev pub link_in : Option (LinkName → List ℕ) → ℕ → Stream
+link_in streams n = ended_stream (stream_of streams (nth_link n))
+
+-- the stream shows a reply that is a challenge, which reads as that realm
+pub record IsChallenge (method : Method) (stream : Stream) (challenge : Reply) (realm : List ℕ) : Type 0 where
+  pub shown : reply_in method stream ≡ Some challenge
+  pub challenges : is_challenge challenge ≡ true
+  pub reads : first_realm challenge.fields ≡ Some realm
+
+-- the stream shows a reply that is no challenge
+pub record IsLast (method : Method) (stream : Stream) (last : Reply) : Type 0 where
+  pub shown : reply_in method stream ≡ Some last
+  pub is_last : is_challenge last ≡ false
+
+-- the links give a challenge and then another reply, and the prompt of the challenge's space is answered
 pub record IsExpected (request : Request) (streams : Option (LinkName → List ℕ)) (answers : Option (ProtectionSpace → ℕ → Option Login)) : Type 0 where
+  pub challenge : Reply
   pub realm : List ℕ
-  pub reads : realm_in (realm_field realm) ≡ Some realm
   pub login : Login
-  pub first : stream_of streams (nth_link 1) ≡ challenge_text realm
-  pub second : stream_of streams (nth_link 2) ≡ ok_text
+  pub last : Reply
+  pub first : IsChallenge request.method (link_in streams 1) challenge realm
+  pub second : IsLast request.method (link_in streams 2) last
   pub given : answer_of answers (server_space request realm) 1 ≡ Some login
 
 -- two links to the server
@@ -127,8 +146,8 @@ both_written request login =
     record { link = nth_link 1; bytes = first_head request } ∷ record { link = nth_link 2; bytes = second_head request login } ∷ []
 
 -- the request was served: its events, and what book, dialer and prompter tell
-pub record IsServed (request : Request) (realm : List ℕ) (login : Login) (events : List Event) (told : List Told) (dials : Option (List Dial)) (traffic : Option (List Traffic)) (asks : Option (List Ask)) : Type 0 where
-  pub same_events : events ≡ all_events request realm login
+pub record IsServed (request : Request) (challenge : Reply) (realm : List ℕ) (login : Login) (last : Reply) (events : List Event) (told : List Told) (dials : Option (List Dial)) (traffic : Option (List Traffic)) (asks : Option (List Ask)) : Type 0 where
+  pub same_events : events ≡ all_events request challenge login last
   pub same_told : told ≡ ended (server_space request realm) login
   pub same_dials : dials ≡ Some (both_dialed request)
   pub same_written : sent_of traffic ≡ both_written request login

@@ -1,9 +1,8 @@
-//! The challenge that a reply's field gives: so far the first Basic one.
+//! The challenge that a reply's fields give: so far the first Basic one.
 
-ghost use Rattle.std.specs.Prelude.{◌≡◌, true, codes, bytes_eq, IfOk, Some};
-ghost use Rattle.auth_controller.specs.Challenges.{basic_realm, first_basic, realm_field, realm_in, realm_of};
+ghost use Rattle.std.specs.Prelude.{◌≡◌, codes, bytes_eq, IfOk};
+ghost use Rattle.auth_controller.specs.Challenges.{basic_realm, first_basic, first_realm, realm_in, realm_of};
 
-use crate::replies::realm_field;
 use auth_text::{Bytes, NoMemory};
 use challenge_tokens::{Body, Challenge, read_field};
 use std::alloc::Global;
@@ -48,7 +47,7 @@ fn first_basic(alloc: Global, challenges: &[Challenge]) -> Result<Option<Bytes>,
 
 /// The realm of the first supported challenge of a field, where there is one.
 #[tactic(auto, unfolding(crate::specs::Challenges::realm_in))]
-pub(crate) fn realm_in(alloc: Global, value: &[u8]) -> Result<Option<Bytes>, NoMemory>
+fn realm_in(alloc: Global, value: &[u8]) -> Result<Option<Bytes>, NoMemory>
     ensures { IfOk result (λ realm. realm ≡ realm_in value.now) }
 {
     let read = read_field(alloc, value)?;
@@ -56,21 +55,14 @@ pub(crate) fn realm_in(alloc: Global, value: &[u8]) -> Result<Option<Bytes>, NoM
     Ok(realm)
 }
 
-fn is_same(found: &Option<Bytes>, realm: &[u8]) -> bool
-    ensures { result ≡ true → found.now ≡ Some realm.now }
+/// The realm of the first supported challenge of a reply's fields, where there is one.
+pub fn first_realm(alloc: Global, fields: &[Bytes]) -> Result<Option<Bytes>, NoMemory>
+    ensures { IfOk result (λ realm. realm ≡ first_realm fields.now) }
 {
-    match found {
-        Some(found) => found.as_slice() == realm,
-        None => false,
+    for field in fields {
+        if let Some(realm) = realm_in(alloc, field.as_slice())? {
+            return Ok(Some(realm));
+        }
     }
-}
-
-/// Whether the field of a Basic challenge of that realm reads as that realm.
-pub fn is_readable(alloc: Global, realm: &[u8]) -> Result<bool, NoMemory>
-    ensures { IfOk result (λ readable. readable ≡ true → realm_in (realm_field realm.now) ≡ Some realm.now) }
-{
-    let field = realm_field(alloc, realm)?;
-    let found = realm_in(alloc, field.as_slice())?;
-    let readable = is_same(&found, realm);
-    Ok(readable)
+    Ok(None)
 }

@@ -9,7 +9,7 @@ mod gear;
 mod replies;
 mod serve;
 
-pub use challenges::is_readable;
+pub use challenges::first_realm;
 pub use gear::Gear;
-pub use replies::{is_ok_text, realm_sent};
+pub use replies::reply_in;
 pub use serve::serve_challenge;

@@ -10,15 +10,14 @@ ghost use Rattle.auth_events.specs.declared.journal.Call.TheVariants.{Begin, Pre
 ghost use Rattle.auth_events.specs.declared.journal.BookReply.TheVariants.{Begun, Nothing, Lead, Given, Noted, Ended};
 ghost use Rattle.spaces.specs.declared.site.Target.TheVariants.{Server};
 ghost use Rattle.auth_controller.specs.Traces.{credentials};
-ghost use Rattle.auth_controller.specs.Challenges.{realm_field, realm_in};
-ghost use Rattle.auth_controller.specs.Heard.{IsChallenge, IsChallengeReply, challenge_text, challenge_reply, ok_text, ok_reply};
-ghost use Rattle.auth_controller.specs.Links.{stream_of, heard_of, sent_of};
-ghost use Rattle.auth_controller.specs.FirstPath.{IsPlain, IsExpected, IsServed, lone_roster, server_space, first_gift, preempted, answered, ended, first_head, second_head, nth_link, answer_of, both_dialed, both_written};
+ghost use Rattle.auth_controller.specs.Heard.{reply_in};
+ghost use Rattle.wire_head.specs.declared.reply.Reply.{Reply};
+ghost use Rattle.auth_controller.specs.Links.{heard_of, sent_of};
+ghost use Rattle.auth_controller.specs.FirstPath.{IsPlain, IsExpected, IsChallenge, IsLast, IsServed, lone_roster, server_space, first_gift, preempted, answered, ended, first_head, second_head, nth_link, link_in, answer_of, both_dialed, both_written};
 
 use crate::book_calls;
-use crate::challenges::realm_in;
 use crate::exchange::exchange;
-use crate::replies::reply_in;
+use crate::replies::{expected_reply, realm_of};
 use auth_events::{BookReply, Call, Controller};
 use auth_runs::{AskSeen, Event, Events, Outcome, Reply, Trace};
 use auth_text::{Bytes, Identity, Items, NoMemory};
@@ -199,76 +198,7 @@ fn close<B: Controller>(
     Ok(())
 }
 
-fn reply_or_none(alloc: Global, stream: &[u8]) -> Result<Option<Reply>, NoMemory>
-    ensures challenge { IfOk result (λ reply. (realm : List ℕ) → stream.now ≡ challenge_text realm → reply ≡ Some (challenge_reply realm)) }
-    ensures ok { IfOk result (λ reply. stream.now ≡ ok_text → reply ≡ Some ok_reply) }
-{
-    let reply = reply_in(alloc, stream)?;
-    Ok(reply)
-}
-
-/// The reply of a stream that is a challenge.
-fn challenge_in(alloc: Global, stream: &[u8]) -> Result<Reply, NoMemory>
-    requires { IsChallenge stream.now }
-    ensures { IfOk result (λ reply. (realm : List ℕ) → stream.now ≡ challenge_text realm → reply ≡ challenge_reply realm) }
-{
-    match reply_or_none(alloc, stream)? {
-        Some(reply) => Ok(reply),
-        None => unreachable!(),
-    }
-}
-
-/// The reply of a stream that is the other one.
-fn ok_in(alloc: Global, stream: &[u8]) -> Result<Reply, NoMemory>
-    requires { stream.now ≡ ok_text }
-    ensures { IfOk result (λ reply. reply ≡ ok_reply) }
-{
-    match reply_or_none(alloc, stream)? {
-        Some(reply) => Ok(reply),
-        None => unreachable!(),
-    }
-}
-
-fn realm_in_field(alloc: Global, field: &[u8]) -> Result<Option<Bytes>, NoMemory>
-    ensures { IfOk result (λ found. (realm : List ℕ) → field.now ≡ realm_field realm → realm_in (realm_field realm) ≡ Some realm → found ≡ Some realm) }
-{
-    let realm = realm_in(alloc, field)?;
-    Ok(realm)
-}
-
-fn field_of(reply: &Reply) -> &[u8]
-    requires { IsChallengeReply reply.now }
-    ensures { (realm : List ℕ) → reply.now ≡ challenge_reply realm → result.now ≡ realm_field realm }
-{
-    match reply.fields.get(0) {
-        Some(field) => field.as_slice(),
-        None => unreachable!(),
-    }
-}
-
-/// The realm of a reply with one Basic challenge.
-fn realm_of(alloc: Global, reply: &Reply) -> Result<Bytes, NoMemory>
-    requires { IsChallengeReply reply.now }
-    ensures { IfOk result (λ found. (realm : List ℕ) → reply.now ≡ challenge_reply realm → found ≡ realm) }
-{
-    match realm_in_field(alloc, field_of(reply))? {
-        Some(realm) => Ok(realm),
-        None => unreachable!(),
-    }
-}
-
-/// The space of the challenge that a stream is.
-fn space_in(alloc: Global, request: &Request, stream: &[u8]) -> Result<Space, NoMemory>
-    requires { IsChallenge stream.now }
-    ensures { IfOk result (λ space. (realm : List ℕ) → stream.now ≡ challenge_text realm → space ≡ server_space request.now realm) }
-{
-    let reply = challenge_in(alloc, stream)?;
-    let realm = realm_of(alloc, &reply)?;
-    let space = server_space(alloc, request, realm)?;
-    Ok(space)
-}
-
-/// The first link: no credentials, and a challenge back.
+/// The first link: no credentials, and a challenge back, whose realm is answered.
 fn meet<D: Dialer>(
     alloc: Global,
     dialer: &mut D,
@@ -280,10 +210,10 @@ fn meet<D: Dialer>(
     requires no_traffic { D.traffic dialer.old ≡ Some [] }
     requires quiet { D.quiet dialer.old }
     requires streams { IsTrue (is_some (D.streams dialer.old)) }
-    requires first { IsChallenge (stream_of (D.streams dialer.old) (nth_link 1)) }
-    ensures stream { IfOk result (λ stream. stream ≡ stream_of (D.streams dialer.old) (nth_link 1)) }
-    ensures events { IfOk result (λ stream. (realm : List ℕ) → stream ≡ challenge_text realm
-        → events.new ≡ events.old ++ Event.Dialed 1 ∷ Event.Headed 1 (first_head request.now) ∷ Event.Replied 1 (challenge_reply realm) ∷ []) }
+    requires first { (challenge : Reply) × (realm : List ℕ) × IsChallenge request.now.method (link_in (D.streams dialer.old) 1) challenge realm }
+    ensures realm { IfOk result (λ found. (challenge : Reply) (realm : List ℕ) → IsChallenge request.now.method (link_in (D.streams dialer.old) 1) challenge realm → found ≡ realm) }
+    ensures events { OnOk result ((challenge : Reply) (realm : List ℕ) → IsChallenge request.now.method (link_in (D.streams dialer.old) 1) challenge realm
+        → events.new ≡ events.old ++ Event.Dialed 1 ∷ Event.Headed 1 (first_head request.now) ∷ Event.Replied 1 challenge ∷ []) }
     ensures dials { OnOk result (D.dials dialer.new ≡ Some (record { link = nth_link 1; to = request.now.place.origin } ∷ [])) }
     ensures written { OnOk result (sent_of (D.traffic dialer.new) ≡ record { link = nth_link 1; bytes = first_head request.now } ∷ []) }
     ensures unheard { OnOk result (heard_of (D.traffic dialer.new) (nth_link 2) ≡ []) }
@@ -295,19 +225,20 @@ fn meet<D: Dialer>(
     let head = first_head(alloc, request)?;
     let name = LinkName { request: 1, nth: 1 };
     let stream = exchange(alloc, dialer, name, &request.place.origin, head.as_slice())?;
-    let reply = challenge_in(alloc, stream.as_slice())?;
+    let reply = expected_reply(alloc, request.method, stream.as_slice())?;
+    let realm = realm_of(alloc, &reply)?;
     push_exchange(events, 1, head, reply)?;
-    Ok(stream)
+    Ok(realm)
 }
 
-/// The second link: the credentials, and the other reply back.
+/// The second link: the credentials, and another reply back, whose code is answered.
 fn send_again<D: Dialer>(
     alloc: Global,
     dialer: &mut D,
     events: &mut Events,
     request: &Request,
     identity: &Identity,
-) -> Result<(), NoMemory>
+) -> Result<u16, NoMemory>
     requires none_open { D.opened dialer.old ≡ [] }
     requires one_dial { D.dials dialer.old ≡ Some (record { link = nth_link 1; to = request.now.place.origin } ∷ []) }
     requires one_written { sent_of (D.traffic dialer.old) ≡ record { link = nth_link 1; bytes = first_head request.now } ∷ [] }
@@ -315,8 +246,10 @@ fn send_again<D: Dialer>(
     requires told { IsTrue (is_some (D.traffic dialer.old)) }
     requires quiet { D.quiet dialer.old }
     requires streams { IsTrue (is_some (D.streams dialer.old)) }
-    requires second { stream_of (D.streams dialer.old) (nth_link 2) ≡ ok_text }
-    ensures events { OnOk result (events.new ≡ events.old ++ Event.Dialed 2 ∷ Event.Headed 2 (second_head request.now identity.now) ∷ Event.Replied 2 ok_reply ∷ []) }
+    requires second { IsTrue (is_some (reply_in request.now.method (link_in (D.streams dialer.old) 2))) }
+    ensures code { IfOk result (λ code. (last : Reply) → reply_in request.now.method (link_in (D.streams dialer.old) 2) ≡ Some last → code ≡ last.code) }
+    ensures events { OnOk result ((last : Reply) → reply_in request.now.method (link_in (D.streams dialer.old) 2) ≡ Some last
+        → events.new ≡ events.old ++ Event.Dialed 2 ∷ Event.Headed 2 (second_head request.now identity.now) ∷ Event.Replied 2 last ∷ []) }
     ensures dials { OnOk result (D.dials dialer.new ≡ Some (both_dialed request.now)) }
     ensures written { OnOk result (sent_of (D.traffic dialer.new) ≡ both_written request.now identity.now) }
     ensures closed { OnOk result (D.opened dialer.new ≡ []) }
@@ -324,12 +257,15 @@ fn send_again<D: Dialer>(
     let head = second_head(alloc, request, identity)?;
     let name = LinkName { request: 1, nth: 2 };
     let stream = exchange(alloc, dialer, name, &request.place.origin, head.as_slice())?;
-    let reply = ok_in(alloc, stream.as_slice())?;
-    push_exchange(events, 2, head, reply)
+    let reply = expected_reply(alloc, request.method, stream.as_slice())?;
+    let code = reply.code;
+    push_exchange(events, 2, head, reply)?;
+    Ok(code)
 }
 
-/// Serves the roster's one request, a GET without a proxy whose URL has no identity. Its links give a
-/// Basic challenge and then a 200; the prompt of the challenge's space is answered.
+/// Serves the roster's one request, which goes to its server and whose URL has no identity. Its first
+/// link gives a Basic challenge and its second one another reply; the prompt of the challenge's space is
+/// answered.
 ///
 /// What the book, the dialer and the prompter tell afterwards is exactly what such a request asks of
 /// them, and the trace is that of these events.
@@ -350,18 +286,20 @@ pub fn serve_challenge<B: Controller, D: Dialer, P: Prompter>(
     requires calm { D.quiet dialer.old × P.quiet prompter.old }
     requires no_asks { P.told prompter.old ≡ Some [] }
     requires expected { IsExpected request.now (D.streams dialer.old) (P.answers prompter.old) }
-    ensures served { IfOk result (λ trace. (realm : List ℕ) (login : Login)
-        → stream_of (D.streams dialer.old) (nth_link 1) ≡ challenge_text realm → answer_of (P.answers prompter.old) (server_space request.now realm) 1 ≡ Some login
-        → IsServed request.now realm login trace (B.told book.new) (D.dials dialer.new) (D.traffic dialer.new) (P.told prompter.new)) }
+    ensures served { IfOk result (λ trace. (challenge : Reply) (realm : List ℕ) (login : Login) (last : Reply)
+        → IsChallenge request.now.method (link_in (D.streams dialer.old) 1) challenge realm
+        → IsLast request.now.method (link_in (D.streams dialer.old) 2) last
+        → answer_of (P.answers prompter.old) (server_space request.now realm) 1 ≡ Some login
+        → IsServed request.now challenge realm login last trace (B.told book.new) (D.dials dialer.new) (D.traffic dialer.new) (P.told prompter.new)) }
     ensures closed { OnOk result (D.opened dialer.new ≡ []) }
     ensures roster { OnOk result (B.roster book.new ≡ lone_roster request.now) }
 {
     let mut events = Items::new(alloc);
     open(book, &mut events, request)?;
-    let stream = meet(alloc, dialer, &mut events, request)?;
-    let space = space_in(alloc, request, stream.as_slice())?;
+    let realm = meet(alloc, dialer, &mut events, request)?;
+    let space = server_space(alloc, request, realm)?;
     let identity = ask(book, prompter, &mut events, request, &space)?;
-    send_again(alloc, dialer, &mut events, request, &identity)?;
-    close(book, &mut events, request, &space, &identity, 200)?;
+    let code = send_again(alloc, dialer, &mut events, request, &identity)?;
+    close(book, &mut events, request, &space, &identity, code)?;
     Ok(Trace::new(events))
 }

@@ -8,5 +8,5 @@ returns c =
     let holds : c.in_ok-first.first ≡ true = search in
     let f = c.in_ok-first.ensures holds in
     let e = f.expected in
-    subst (IsRunOf c.args.session 1 c.args.seed) (sym (c.in_ok-run.ensures e.realm e.login e.first e.given))
-    (served c.args.session c.args.seed c.in-Some.request.now e.realm e.login c.in-Some.ensures f.plain e.reads e.first e.second e.given)
+    subst (IsRunOf c.args.session 1 c.args.seed) (sym (c.in_ok-run.ensures e.challenge e.realm e.login e.last e.first e.second e.given))
+    (served c.args.session c.args.seed c.in-Some.request.now e.challenge e.realm e.login e.last c.in-Some.ensures f.plain e.first e.second e.given)
