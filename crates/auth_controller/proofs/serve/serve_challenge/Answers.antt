@@ -12,8 +12,8 @@ new-requires g c =
     let x = c.requires.expected in
     let second = ap (λ v. reply_in c.args.request.now.method (link_in v 2)) c.in_ok-realm.ensures.streams ∙ x.second.shown in
     ap is_whole (joined _ _ _ _ _ _ _ _ _ _ _
-        c.new-events.ensures c.in_ok-open.ensures.events (c.in_ok-realm.ensures.events x.challenge x.realm x.first)
-        c.in_ok-identity.ensures.events (c.in_ok-code.ensures.events x.last second) c.in_ok-close.ensures.events)
+    c.new-events.ensures c.in_ok-open.ensures.events (c.in_ok-realm.ensures.events x.challenge x.realm x.first)
+    c.in_ok-identity.ensures.events (c.in_ok-code.ensures.events x.last second) c.in_ok-close.ensures.events)
 
 pub returns-clause-served : goal.returns-clause-served
 returns-clause-served g c challenge realm login last first second given =
@@ -23,8 +23,8 @@ returns-clause-served g c challenge realm login last first second given =
     let shown = ap (λ v. reply_in request.method (link_in v 2)) c.in_ok-realm.ensures.streams ∙ second.shown in
     let code = c.in_ok-code.ensures.code last shown in
     let events = joined _ _ _ _ _ _ _ _ _ _ _
-        c.new-events.ensures c.in_ok-open.ensures.events (c.in_ok-realm.ensures.events challenge realm first)
-        c.in_ok-identity.ensures.events (c.in_ok-code.ensures.events last shown) c.in_ok-close.ensures.events in
+    c.new-events.ensures c.in_ok-open.ensures.events (c.in_ok-realm.ensures.events challenge realm first)
+    c.in_ok-identity.ensures.events (c.in_ok-code.ensures.events last shown) c.in_ok-close.ensures.events in
     record {
       same_events = c.new.ensures ∙ events
           ∙ ap (λ v. coded_events request challenge v last c.in_ok-code.code) same ∙ ap (coded_events request challenge login last) code;
