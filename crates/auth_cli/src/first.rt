@@ -4,15 +4,15 @@
 ghost use Rattle.std.specs.Prelude.{◌≡◌, true, IsTrue, is_some, IfOk, IfSome};
 ghost use Rattle.link_trait.specs.Links.{stream_in};
 ghost use Rattle.link_trait.specs.Prompts.{answer_in};
-ghost use Rattle.auth_controller.specs.FirstPath.{IsPlain, lone_roster, nth_link, server_space};
+ghost use Rattle.auth_controller.specs.FirstPath.{IsPlain, lone_roster, nth_link};
 ghost use Rattle.auth_controller.specs.Heard.{ended, reply_in};
 ghost use Rattle.auth_cli.specs.Served.{HasChallenge, HasLast, IsFirstWith};
 
-use auth_controller::{first_realm, reply_in};
+use auth_controller::{first_realm, reply_in, server_space};
 use auth_runs::Reply;
 use auth_text::{Bytes, NoMemory};
 use link_trait::{Answers, Asked, LinkName, Links, Prompter, ScriptPrompter, stream_in};
-use spaces::{Method, Request, Roster, Scheme, Site, Space, Target};
+use spaces::{Method, Request, Roster, Space};
 use std::alloc::Global;
 
 /// A request that goes to its server, and whose URL has no identity.
@@ -74,19 +74,6 @@ fn has_last(alloc: Global, method: Method, links: &Links) -> Result<bool, NoMemo
         Some(reply) => Ok(reply.code != 401),
         None => Ok(false),
     }
-}
-
-fn server_space(request: &Request, realm: Bytes) -> Result<Space, NoMemory>
-    ensures { IfOk result (λ space. space ≡ server_space request.now realm) }
-{
-    let partition = request.partition.clone()?;
-    let origin = request.place.origin.clone()?;
-    let site = Site {
-        partition,
-        target: Target::Server,
-        origin,
-    };
-    Ok(Space::new(site, Scheme::Basic, realm))
 }
 
 /// Whether an identity stands for the space's first prompt.

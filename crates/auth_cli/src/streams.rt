@@ -1,10 +1,11 @@
 //! A whole input out of a source, and a whole text into a sink: both come and go in pieces, and both
 //! may fail at any piece.
 
-ghost use Rattle.std.specs.Prelude.{◌≡◌, ◌≤◌, ◌+◌, ◌++◌, length, vec_len, drop, take, IfOk, OnOk, OnErr, IsErrOf};
+ghost use Rattle.std.specs.Prelude.{◌≡◌, ◌≤◌, ◌+◌, length, drop, IfOk, OnOk, OnErr, IsErrOf};
 ghost use Rattle.link_trait.specs.Faults.{Rose};
 ghost use Rattle.auth_cli.specs.Whole.{WasRead, WasReadPast, WasWritten, WasWrittenInPart};
 
+use auth_controller::{add_front, zeros};
 use auth_text::{Bytes, NoMemory};
 use link_trait::{Got, Sink, Source, Took};
 use std::alloc::{AllocError, Global};
@@ -47,21 +48,6 @@ impl From<AllocError> for ReadStop {
 pub(crate) enum WriteStop {
     Fault,
     NoMemory,
-}
-
-// Apart from the loop below, since its length would else be unfolded in each of the loop's goals.
-fn zeros(alloc: Global, len: usize) -> Result<Vec<u8>, AllocError>
-    ensures { IfOk result (λ buf. vec_len buf ≡ len) }
-{
-    vec![in alloc; 0u8; len]
-}
-
-fn add_front(text: &mut Bytes, buf: &[u8], count: usize) -> Result<(), NoMemory>
-    requires { count ≤ length buf.now }
-    ensures ok { OnOk result (text.new ≡ text.old ++ take count buf.now) }
-    ensures len { OnOk result (length text.new ≡ length text.old + count) }
-{
-    text.extend_from_slice(&buf[..count])
 }
 
 /// Reads a source to its end, if it has no more bytes than a session's text may have.

@@ -1,31 +1,18 @@
 //! One exchange over a link of its own: dial, write the head, read what the peer sends to its end,
 //! close.
 
-ghost use Rattle.std.specs.Prelude.{◌≡◌, ◌≤◌, ◌<◌, ◌+◌, ◌++◌, ◌∷◌, [], IsTrue, is_some, true, false, length, vec_len, take, IfOk, OnOk, OnErr};
+ghost use Rattle.std.specs.Prelude.{◌≡◌, ◌≤◌, ◌<◌, ◌+◌, ◌++◌, ◌∷◌, [], IsTrue, is_some, true, false, length, IfOk, OnOk, OnErr};
 ghost use Rattle.link_trait.specs.Told.{grown};
 ghost use Rattle.link_trait.specs.Links.{has_link, IsUndialed};
 ghost use Rattle.auth_controller.specs.Links.{stream_of, heard_of, sent_of, AreUnheard, OnlyReads, IsFront};
 
+use crate::pieces::{add_front, zeros};
 use auth_text::{Bytes, NoMemory};
 use link_trait::{Dialed, Dialer, Got, LinkName, Traffic, Wrote};
 use spaces::Origin;
-use std::alloc::{AllocError, Global};
+use std::alloc::Global;
 
 const ROOM: usize = 8_192;
-
-// Apart from the loop below, since its length would else be unfolded in each of the loop's goals.
-fn zeros(alloc: Global, len: usize) -> Result<Vec<u8>, AllocError>
-    ensures { IfOk result (λ buf. vec_len buf ≡ len) }
-{
-    vec![in alloc; 0u8; len]
-}
-
-fn add_front(text: &mut Bytes, buf: &[u8], count: usize) -> Result<(), NoMemory>
-    requires { count ≤ length buf.now }
-    ensures { OnOk result (text.new ≡ text.old ++ take count buf.now) }
-{
-    text.extend_from_slice(&buf[..count])
-}
 
 /// Reads the next piece of a link's stream behind the text; `false` where the stream has ended.
 fn read_piece<D: Dialer>(

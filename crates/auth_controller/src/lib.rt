@@ -6,10 +6,12 @@ mod book_calls;
 mod challenges;
 mod exchange;
 mod gear;
+mod pieces;
 mod replies;
 mod serve;
 
 pub use challenges::first_realm;
 pub use gear::Gear;
+pub use pieces::{add_front, zeros};
 pub use replies::reply_in;
-pub use serve::serve_challenge;
+pub use serve::{serve_challenge, server_space};

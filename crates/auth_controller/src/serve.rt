@@ -27,7 +27,8 @@ use spaces::{Method, Origin, Request, Scheme, Site, Space, Target};
 use std::alloc::Global;
 use wire_head::{HeadParts, write_head};
 
-fn server_space(alloc: Global, request: &Request, realm: Bytes) -> Result<Space, NoMemory>
+/// The space of a Basic challenge with this realm, which the request's server gave it.
+pub fn server_space(request: &Request, realm: Bytes) -> Result<Space, NoMemory>
     ensures { IfOk result (λ space. space ≡ server_space request.now realm) }
 {
     let partition = request.partition.clone()?;
@@ -297,7 +298,7 @@ pub fn serve_challenge<B: Controller, D: Dialer, P: Prompter>(
     let mut events = Items::new(alloc);
     open(book, &mut events, request)?;
     let realm = meet(alloc, dialer, &mut events, request)?;
-    let space = server_space(alloc, request, realm)?;
+    let space = server_space(request, realm)?;
     let identity = ask(book, prompter, &mut events, request, &space)?;
     let code = send_again(alloc, dialer, &mut events, request, &identity)?;
     close(book, &mut events, request, &space, &identity, code)?;

@@ -1,10 +1,11 @@
-//! The source and the sink in memory, each once by itself and once through its trait, with a failure
-//! in mid-stream.
+//! What answers from memory, each with ample memory and with its failures: the source and the sink
+//! also through their traits.
 
 ghost use Rattle.std.specs.Prelude.{◌<◌, length};
 
 use super::*;
-use auth_text::Bytes;
+use auth_text::{Bytes, Identity, Items};
+use spaces::{Origin, Partition, Scheme, Site, Space, Target};
 use std::alloc::Global;
 use std::test::Fail;
 
@@ -58,5 +59,119 @@ fn a_sink_takes_ten_bytes_and_fails_at_its_third_write(rt: HostRuntime) -> Resul
     assert_eq!(rt; sink.bytes(), &text[..20]);
     assert!(rt; write_next(&mut sink, &text[20..]) == (Took::Bytes(7), 1));
     can_be_sent(&sink);
+    Ok(())
+}
+
+/// One recorded link, whose peer sends a status line.
+fn recorded(alloc: Global) -> Result<Links, Fail> {
+    let mut streams = Items::new(alloc);
+    streams
+        .push(bytes(alloc, b"HTTP/1.1 200 OK")?)
+        .map_err(|_| "memory")?;
+    let mut links = Links::new(alloc);
+    links.push(streams).map_err(|_| "memory")?;
+    Ok(links)
+}
+
+#[test]
+fn a_dialer_gives_the_recorded_stream_and_fails_at_its_fourth_call(
+    rt: HostRuntime,
+) -> Result<(), Fail> {
+    let alloc = rt.alloc();
+    let mut dialer = RecordedDialer::new(alloc, recorded(alloc)?, calls(alloc, &[4])?);
+    let name = LinkName { request: 1, nth: 1 };
+    let host = bytes(alloc, b"intra.example")?;
+    let Dialed::Link = dialer.dial(name, &Origin { host, port: 80 }) else {
+        return Err("no link".into());
+    };
+    assert!(rt; matches!(dialer.write(name, b"GET / HTTP/1.1"), Wrote::All));
+    let mut buf = [0; 8];
+    assert!(rt; dialer.read(name, &mut buf) == Got::Bytes(8));
+    assert_eq!(rt; buf.as_slice(), b"HTTP/1.1".as_slice());
+    assert!(rt; dialer.read(name, &mut buf) == Got::Failed);
+    assert_eq!(rt; dialer.faults(), 1);
+    assert!(rt; dialer.read(name, &mut buf) == Got::Bytes(7));
+    assert_eq!(rt; &buf[..7], b" 200 OK".as_slice());
+    assert!(rt; dialer.read(name, &mut buf) == Got::End);
+    dialer.close(name);
+    Ok(())
+}
+
+/// A Basic space of a server, with this realm.
+fn space(alloc: Global, realm: &[u8]) -> Result<Space, Fail> {
+    let partition = Partition::new(alloc, b"main").map_err(|_| "memory")?;
+    let host = bytes(alloc, b"intra.example")?;
+    let site = Site {
+        partition,
+        target: Target::Server,
+        origin: Origin { host, port: 80 },
+    };
+    Ok(Space::new(site, Scheme::Basic, bytes(alloc, realm)?))
+}
+
+fn identity(alloc: Global, user: &[u8]) -> Result<Identity, Fail> {
+    Ok(Identity::new(alloc, user, b"open sesame").map_err(|_| "memory")?)
+}
+
+/// What a prompter answers: the user, `cancel` or `failed`.
+fn asked<P: Prompter>(
+    alloc: Global,
+    prompter: &mut P,
+    realm: &[u8],
+    ordinal: u32,
+) -> Result<Bytes, Fail> {
+    match prompter.ask(&space(alloc, realm)?, ordinal) {
+        Asked::Given(identity) => bytes(alloc, identity.user()),
+        Asked::Cancel => bytes(alloc, b"cancel"),
+        Asked::Failed => bytes(alloc, b"failed"),
+        Asked::NoMemory => Err("memory".into()),
+    }
+}
+
+#[test]
+fn a_prompter_answers_by_space_and_ordinal(rt: HostRuntime) -> Result<(), Fail> {
+    let alloc = rt.alloc();
+    let mut answers = Answers::new(alloc);
+    for (realm, user) in [(b"x", b"Aladdin"), (b"y", b"Mufasa "), (b"x", b"Morgana")] {
+        let given = Some(identity(alloc, user)?);
+        answers
+            .push((space(alloc, realm)?, given))
+            .map_err(|_| "memory")?;
+    }
+    let mut prompter = FailingPrompter::new(alloc, &answers, calls(alloc, &[3])?)?;
+    for (realm, ordinal, wanted) in [
+        (b"x", 2, b"Morgana".as_slice()),
+        (b"y", 1, b"Mufasa ".as_slice()),
+        (b"x", 1, b"failed".as_slice()),
+        (b"x", 1, b"Aladdin".as_slice()),
+        (b"y", 2, b"cancel".as_slice()),
+    ] {
+        let found = asked(alloc, &mut prompter, realm, ordinal)?;
+        assert_eq!(rt; found.as_slice(), wanted);
+    }
+    assert_eq!(rt; prompter.faults(), 1);
+    Ok(())
+}
+
+#[test]
+fn a_provider_takes_its_steps(rt: HostRuntime) -> Result<(), Fail> {
+    let alloc = rt.alloc();
+    let mut listed = Items::new(alloc);
+    listed
+        .push(Step::Token(bytes(alloc, b"YII=")?))
+        .map_err(|_| "memory")?;
+    listed.push(Step::Failed).map_err(|_| "memory")?;
+    listed.push(Step::Done).map_err(|_| "memory")?;
+    let mut steps = Steps::new(alloc);
+    steps.push(listed).map_err(|_| "memory")?;
+    let mut tokens = ScriptTokens::new(alloc, steps);
+    let token = Step::Token(bytes(alloc, b"YII=")?);
+    assert!(rt; tokens.start(1, b"HTTP@intra.example", None) == token);
+    assert!(rt; tokens.go_on(1, b"YIJ=") == Step::Failed);
+    assert_eq!(rt; tokens.faults(), 1);
+    assert!(rt; tokens.go_on(1, b"YIJ=") == Step::Done);
+    assert!(rt; tokens.go_on(1, b"") == Step::NoMechanism);
+    assert!(rt; tokens.start(2, b"HTTP@intra.example", None) == Step::NoMechanism);
+    assert!(rt; NoTokens.start(1, b"HTTP@intra.example", None) == Step::NoMechanism);
     Ok(())
 }

@@ -4,6 +4,7 @@
 mod counts;
 mod cut;
 mod first_path;
+mod first_path_parts;
 mod line;
 mod session;
 #[cfg(test)]

@@ -1,7 +1,8 @@
 //! The session: its lines are read once, in order, and each is judged by those before it.
 
-ghost use Rattle.std.specs.Prelude.{◌≡◌, ◌≤◌, ◌++◌, ◌∷◌, [], length, IfOk};
+ghost use Rattle.std.specs.Prelude.{◌≡◌, ◌≤◌, ◌++◌, ◌∷◌, [], length, IfOk, None, Some, if◌then◌else◌};
 ghost use Rattle.auth_text.specs.Gives.{GivesBy};
+ghost use Rattle.spaces.specs.declared.roster.Request.{Request};
 ghost use Rattle.session_text.specs.Readings as spec;
 ghost use Rattle.session_text.specs.Sessions.{session};
 
@@ -60,69 +61,51 @@ struct Reading {
     steps: Steps,
 }
 
+/// The line is bad, unless it may stand there.
+fn bad_unless(right: bool, number: u32) -> Option<SessionFault>
+    ensures { result ≡ (if right then None else Some (SessionFault.BadLine number)) }
+{
+    if right {
+        return None;
+    }
+    Some(SessionFault::BadLine { line: number })
+}
+
+fn workers_fault(number: u32, reading: &Reading, workers: u32) -> Option<SessionFault>
+    ensures { result ≡ spec.fault_in number reading.now (Line.Workers workers) }
+{
+    if reading.begun && workers > 16 {
+        return Some(SessionFault::TooMany {
+            what: What::Workers,
+            number: workers,
+        });
+    }
+    let right = reading.begun && workers > 0 && reading.workers.is_none();
+    bad_unless(right, number)
+}
+
+fn request_fault(number: u32, reading: &Reading) -> Option<SessionFault>
+    ensures { (request : Request) → result ≡ spec.fault_in number reading.now (Line.Request request) }
+{
+    if reading.begun && reading.roster.requests.len() >= 2048 {
+        return Some(SessionFault::TooMany {
+            what: What::Requests,
+            number: 2049,
+        });
+    }
+    bad_unless(reading.begun, number)
+}
+
 fn fault_in(number: u32, reading: &Reading, line: &Line) -> Option<SessionFault>
     ensures { result ≡ spec.fault_in number reading.now line.now }
 {
-    let bad = Some(SessionFault::BadLine { line: number });
     match line {
         Line::Passed => None,
-        Line::Header => {
-            if reading.begun {
-                return bad;
-            }
-            None
-        }
-        Line::Workers(n) => {
-            if !reading.begun {
-                return bad;
-            }
-            if *n > 16 {
-                return Some(SessionFault::TooMany {
-                    what: What::Workers,
-                    number: *n,
-                });
-            }
-            if *n == 0 || reading.workers.is_some() {
-                return bad;
-            }
-            None
-        }
-        Line::Request(_) => {
-            if !reading.begun {
-                return bad;
-            }
-            if reading.roster.requests.len() < 2048 {
-                return None;
-            }
-            Some(SessionFault::TooMany {
-                what: What::Requests,
-                number: 2049,
-            })
-        }
-        Line::Link(_) => {
-            if reading.roster.requests.len() == 0 {
-                return bad;
-            }
-            None
-        }
-        Line::Token(_) => {
-            if reading.roster.requests.len() == 0 {
-                return bad;
-            }
-            None
-        }
-        Line::Default(_) => {
-            if reading.begun {
-                return None;
-            }
-            bad
-        }
-        Line::Answer(_, _) => {
-            if reading.begun {
-                return None;
-            }
-            bad
-        }
+        Line::Header => bad_unless(!reading.begun, number),
+        Line::Workers(workers) => workers_fault(number, reading, *workers),
+        Line::Request(_) => request_fault(number, reading),
+        Line::Link(_) | Line::Token(_) => bad_unless(reading.roster.requests.len() > 0, number),
+        Line::Default(_) | Line::Answer(_, _) => bad_unless(reading.begun, number),
     }
 }
 
