@@ -1,15 +1,17 @@
 //! The reading of a whole field, piece by piece from the left, up to its end or its first bad piece.
 
-ghost use Rattle.std.specs.Prelude.{◌≡◌, ◌≤◌, [], ◌∷◌, length, take, drop, IsTrue, IfOk};
+ghost use Rattle.std.specs.Prelude.{◌≡◌, ◌≤◌, [], ◌∷◌, length, IsTrue, IfOk};
 ghost use Rattle.challenge_tokens.specs.Names.{is_lower};
 ghost use Rattle.challenge_tokens.specs.Forms.{is_lower_form};
 ghost use Rattle.challenge_tokens.specs.Pieces.{field_read, trim_end as trimmed_end, extend, join, takes_params};
 ghost use Rattle.challenge_tokens.specs.Cutting.{piece_len as first_len};
+ghost use Rattle.challenge_tokens.specs.Front.{front, next_by};
 ghost use Rattle.challenge_tokens.specs.Reading as spec;
 
 use crate::challenge::{Body, Challenge, Challenges, FieldRead};
 use crate::params::{Param, Params};
 use crate::piece::{Form, Quoting, blank_len, form_of, is_blank};
+use crate::scan::{front_of, param, rest_of};
 use auth_text::NoMemory;
 use std::alloc::Global;
 
@@ -172,20 +174,6 @@ fn field(reading: Reading, bad_at: Option<usize>) -> Result<FieldRead, NoMemory>
     })
 }
 
-fn front_of(text: &[u8], n: usize) -> &[u8]
-    requires { n ≤ length text.now }
-    ensures { result.now ≡ take n text.now }
-{
-    &text[..n]
-}
-
-fn rest_of(text: &[u8], n: usize) -> &[u8]
-    requires { n ≤ length text.now }
-    ensures { result.now ≡ drop n text.now }
-{
-    &text[n..]
-}
-
 /// What a piece leaves.
 #[derive(Drop)]
 pub enum Next {
@@ -195,6 +183,16 @@ pub enum Next {
     Refused(Reading),
 }
 
+fn next_by(alloc: Global, reading: Reading, form: Form) -> Result<Next, NoMemory>
+    requires { IsTrue (is_lower_form form) }
+    ensures { IfOk result (λ next. next ≡ next_by reading form) }
+{
+    if is_refused(&reading, &form) {
+        return Ok(Next::Refused(reading));
+    }
+    Ok(Next::Goes(with_form(alloc, reading, form)?))
+}
+
 #[tactic(auto, using(crate::proofs::FormLemmas::lower_form))]
 fn next_of(alloc: Global, reading: Reading, bytes: &[u8]) -> Result<Next, NoMemory>
     ensures { IfOk result (λ next. next ≡ spec.next_of reading bytes.now) }
@@ -202,11 +200,31 @@ fn next_of(alloc: Global, reading: Reading, bytes: &[u8]) -> Result<Next, NoMemo
     if bytes.len() == 0 {
         return Ok(Next::Goes(reading));
     }
-    let form = form_of(alloc, bytes)?;
-    if is_refused(&reading, &form) {
-        return Ok(Next::Refused(reading));
+    next_by(alloc, reading, form_of(alloc, bytes)?)
+}
+
+/// What the piece in front leaves, and how many bytes it has. A parameter is read in one pass; of any
+/// other piece the end is found first.
+fn next_at(alloc: Global, reading: Reading, text: &[u8]) -> Result<(Next, usize), NoMemory>
+    ensures next { IfOk result (λ read. read.0 ≡ spec.next_of reading (front text.now)) }
+    ensures len { IfOk result (λ read. read.1 ≡ first_len Quoting.Outside text.now) }
+    ensures within { IfOk result (λ read. read.1 ≤ length text.now) }
+{
+    match param(alloc, text)? {
+        Some((found, n)) => Ok((next_by(alloc, reading, Form::Parameter(found))?, n)),
+        None => other_at(alloc, reading, text),
     }
-    Ok(Next::Goes(with_form(alloc, reading, form)?))
+}
+
+fn other_at(alloc: Global, reading: Reading, text: &[u8]) -> Result<(Next, usize), NoMemory>
+    ensures next { IfOk result (λ read. read.0 ≡ spec.next_of reading (front text.now)) }
+    ensures len { IfOk result (λ read. read.1 ≡ first_len Quoting.Outside text.now) }
+    ensures within { IfOk result (λ read. read.1 ≤ length text.now) }
+{
+    let n = piece_len(text);
+    let bytes = trim_end(front_of(text, n));
+    let next = next_of(alloc, reading, bytes)?;
+    Ok((next, n))
 }
 
 /// Reads a field's value as a list of challenges, after RFC 7235 section 2.1. The value is cut at its
@@ -223,11 +241,10 @@ pub fn read_field(alloc: Global, value: &[u8]) -> Result<FieldRead, NoMemory>
     let mut at = 0;
     let mut rest = value;
     'pieces: loop {
-        let n = piece_len(rest);
-        let piece = front_of(rest, n);
-        let blank = blank_len(piece);
-        let bytes = trim_end(rest_of(piece, blank));
-        match next_of(alloc, reading, bytes)? {
+        let blank = blank_len(rest);
+        let (left, len) = next_at(alloc, reading, rest_of(rest, blank))?;
+        let n = blank + len;
+        match left {
             Next::Goes(next) => reading = next,
             Next::Refused(last) => return field(last, Some(at + blank)),
         }

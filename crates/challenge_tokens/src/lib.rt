@@ -8,6 +8,7 @@ mod field;
 mod laws;
 mod params;
 mod piece;
+mod scan;
 mod write;
 
 pub use challenge::{Body, Challenge, Challenges, FieldRead};

@@ -83,7 +83,7 @@ fn space_len(bytes: &[u8]) -> usize
     bytes.iter().take_while(|b| **b == b' ').count()
 }
 
-fn token_len(bytes: &[u8]) -> usize
+pub fn token_len(bytes: &[u8]) -> usize
     ensures value { result ≡ spec.token_len bytes.now }
     ensures within { result ≤ length bytes.now }
 {
