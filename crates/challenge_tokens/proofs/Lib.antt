@@ -8,6 +8,8 @@ pub mod EdgeLemmas
 pub mod FrontLemmas
 pub mod ReadLemmas
 pub mod QuoteLemmas
+pub mod ArgumentLemmas
+pub mod HeadLemmas
 pub mod SeamLemmas
 pub mod SpellingLemmas
 pub mod SpellingWalk

@@ -37,7 +37,7 @@ starts_none : (b : ℕ) (x : List ℕ) → starts b x ≡ false → prefix_len (
 starts_none b [] off = refl
 starts_none b (c ∷ x) off = rw off refl
 
-none_starts : (b : ℕ) (x : List ℕ) → prefix_len (λ c. c == b) x ≡ 0 → starts b x ≡ false
+pub none_starts : (b : ℕ) (x : List ℕ) → prefix_len (λ c. c == b) x ≡ 0 → starts b x ≡ false
 none_starts b [] none = refl
 none_starts b (c ∷ x) none = off_first (λ a. a == b) c x (c == b) refl none
 
@@ -154,7 +154,7 @@ behind text n is =
 
 -- ---- "=" and a value
 
-no_equals : (y : List ℕ) → starts 61 y ≡ false → value_behind y ≡ None
+pub no_equals : (y : List ℕ) → starts 61 y ≡ false → value_behind y ≡ None
 no_equals [] off = refl
 no_equals (b ∷ y) off = rw off refl
 
@@ -166,7 +166,7 @@ equals_first more =
     let closed = closed_plain (61 ∷ []) refl in
     (front_keeps (61 ∷ []) more closed (solid_keeps (61 ∷ []) refl), closed more)
 
-equals_value : (more : List ℕ) (n : ℕ) → n ≡ prefix_len is_blank more
+pub equals_value : (more : List ℕ) (n : ℕ) → n ≡ prefix_len is_blank more
     → sized (value_behind (front (61 ∷ more))) (61 ∷ more) ≡ later (1 + n) (sized (value_of (front (drop n more))) (drop n more))
 equals_value more n is =
     let b = behind more n is in
@@ -215,7 +215,7 @@ param_by text x rest k parts some is =
     ap (λ p. sized p text) (ap param_of t.front_is ∙ param_at x (front rest) t.is t.ends ∙ ap (λ y. option_map (named x) (value_behind y)) b.trimmed)
     ∙ sized_named x v text ∙ ap (with_name (folded x)) (sized_later v text (drop k rest) (length x + k) (omega (arith, t.len, b.len)))
 
-param_found : (text : List ℕ) (n k : ℕ) → n ≡ token_len text → 0 < n → k ≡ prefix_len is_blank (drop n text)
+pub param_found : (text : List ℕ) (n k : ℕ) → n ≡ token_len text → 0 < n → k ≡ prefix_len is_blank (drop n text)
     → sized (param_of (front text)) text
     ≡ with_name (folded (take n text)) (later (n + k) (sized (value_behind (front (drop k (drop n text)))) (drop k (drop n text))))
 param_found text n k is some blanks =

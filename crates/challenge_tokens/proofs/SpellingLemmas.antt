@@ -23,7 +23,7 @@ prefix_all p (b ∷ x) rest all stops =
     let later = prefix_all p x rest parts.1 stops in
     rw (parts.0, later) (one-add (length x))
 
-drop_prefix : (p : ℕ → Bool) (front x : List ℕ) → list_all p front ≡ true
+pub drop_prefix : (p : ℕ → Bool) (front x : List ℕ) → list_all p front ≡ true
     → drop (prefix_len p (front ++ x)) (front ++ x) ≡ drop (prefix_len p x) x
 drop_prefix p [] x all = refl
 drop_prefix p (b ∷ front) x all =
@@ -51,7 +51,7 @@ param_at s rest is stops =
     let name = as_name s is in
     rw (prefix_all is_token_byte s rest name.all stops, name.some, take-append_seam s rest, drop-append_seam s rest) refl
 
-form_at : (s rest : List ℕ) → is_token s ≡ true → token_len rest ≡ 0
+pub form_at : (s rest : List ℕ) → is_token s ≡ true → token_len rest ≡ 0
     → form_of (s ++ rest) ≡ or_param (option_map (named s) (value_behind (trim_start rest))) (head_form (folded s) rest)
 form_at s rest is stops =
     let name = as_name s is in

@@ -1,12 +1,15 @@
 -- The first piece of a text, and what is read of it.
-use Rattle.std.specs.Prelude.{ℕ, Bool, true, false, ◌==◌, List, [], ◌∷◌, take, Option, Some, None, option_map, ◌+◌, Result, Ok, Err, if◌then◌else◌}
+use Rattle.std.specs.Prelude.{ℕ, Bool, true, false, ◌&&◌, ◌==◌, List, [], ◌∷◌, take, Option, Some, None, option_map, ◌+◌, Result, Ok, Err, if◌then◌else◌}
+use Rattle.auth_text.specs.Text.{is_token_byte}
 use Rattle.challenge_tokens.specs.declared.piece.Quoting.TheVariants.{Outside}
 use Rattle.auth_text.specs.declared.quoted.QuoteFault.{QuoteFault}
 use Rattle.challenge_tokens.specs.declared.piece.Form.{Form}
+use Rattle.challenge_tokens.specs.declared.piece.Form.TheVariants.{Bare, WithToken, WithParam, Parameter, Bad}
 use Rattle.challenge_tokens.specs.declared.field.Reading.{Reading}
 use Rattle.challenge_tokens.specs.declared.field.Next.{Next}
 use Rattle.challenge_tokens.specs.declared.field.Next.TheVariants.{Goes, Refused}
 use Rattle.challenge_tokens.specs.Reading.{is_refused, with_form}
+use Rattle.challenge_tokens.specs.Forms.{is_token68_byte, trim_start, value_of, value_behind, or_param, head_form}
 use Rattle.challenge_tokens.specs.Pieces.{trim_end}
 use Rattle.challenge_tokens.specs.Cutting.{piece_len}
 
@@ -47,6 +50,29 @@ abbrev pub is_over : List ℕ → Bool
 is_over [] = true
 is_over (b ∷ bytes) = b == 44
 
--- what a piece of this form leaves
-abbrev pub next_by : Reading → Form → Next
-next_by r form = if is_refused r form then Refused r else Goes (with_form r form)
+-- a byte that may stand in a token and in a token68
+abbrev pub is_common : ℕ → Bool
+is_common b = is_token68_byte b && is_token_byte b
+
+-- a form, unless it is bad
+abbrev pub unless_bad : Form → Option Form
+unless_bad (Bare s) = Some (Bare s)
+unless_bad (WithToken s t) = Some (WithToken s t)
+unless_bad (WithParam s p) = Some (WithParam s p)
+unless_bad (Parameter p) = Some (Parameter p)
+unless_bad Bad = None
+
+-- the form of a piece, from the token in front of it, in lower case, and the bytes behind that
+abbrev pub after_token : List ℕ → List ℕ → Form
+after_token token bytes =
+    or_param (option_map (λ value. record { name = token; value = value }) (value_behind (trim_start bytes))) (head_form token bytes)
+
+-- the value that is the first piece, where so many "=" stand before it: a value has none in front
+abbrev pub value_after : ℕ → List ℕ → Option (List ℕ × ℕ)
+value_after n text =
+    if n == 0 then sized (value_behind (front text)) text
+    else (if n == 1 then sized (value_of (front text)) text else None)
+
+-- what a piece of this form and of so many bytes leaves
+abbrev pub next_by : Reading → Form → ℕ → Next
+next_by r form n = if is_refused r form then Refused r else Goes (with_form r form) n

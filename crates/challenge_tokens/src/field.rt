@@ -1,17 +1,18 @@
 //! The reading of a whole field, piece by piece from the left, up to its end or its first bad piece.
 
-ghost use Rattle.std.specs.Prelude.{◌≡◌, ◌≤◌, [], ◌∷◌, length, IsTrue, IfOk};
+ghost use Rattle.std.specs.Prelude.{◌≡◌, [], ◌∷◌, IsTrue, IfOk};
 ghost use Rattle.challenge_tokens.specs.Names.{is_lower};
 ghost use Rattle.challenge_tokens.specs.Forms.{is_lower_form};
-ghost use Rattle.challenge_tokens.specs.Pieces.{field_read, trim_end as trimmed_end, extend, join, takes_params};
+ghost use Rattle.challenge_tokens.specs.Pieces.{field_read, extend, join};
 ghost use Rattle.challenge_tokens.specs.Cutting.{piece_len as first_len};
 ghost use Rattle.challenge_tokens.specs.Front.{front, next_by};
 ghost use Rattle.challenge_tokens.specs.Reading as spec;
 
 use crate::challenge::{Body, Challenge, Challenges, FieldRead};
+use crate::head::form;
 use crate::params::{Param, Params};
-use crate::piece::{Form, Quoting, blank_len, form_of, is_blank};
-use crate::scan::{front_of, param, rest_of};
+use crate::piece::{Form, Quoting, blank_len};
+use crate::scan::{blank_piece, rest_of};
 use auth_text::NoMemory;
 use std::alloc::Global;
 
@@ -20,31 +21,6 @@ use std::alloc::Global;
 pub struct Reading {
     pub done: Challenges,
     pub current: Option<Challenge>,
-}
-
-/// How many bytes stand before the first comma outside quoted strings.
-fn piece_len(text: &[u8]) -> usize
-    ensures value { result ≡ first_len Quoting.Outside text.now }
-    ensures within { result ≤ length text.now }
-{
-    let mut quoting = Quoting::Outside;
-    for (i, b) in text.iter().enumerate() {
-        if *b == b',' && quoting == Quoting::Outside {
-            return i;
-        }
-        quoting = quoting.after(*b);
-    }
-    text.len()
-}
-
-fn trim_end(bytes: &[u8]) -> &[u8]
-    ensures { result.now ≡ trimmed_end bytes.now }
-{
-    let mut n = bytes.len();
-    while n > 0 && is_blank(bytes[n - 1]) {
-        n -= 1;
-    }
-    &bytes[..n]
 }
 
 fn takes(current: &Option<Challenge>) -> bool
@@ -177,60 +153,40 @@ fn field(reading: Reading, bad_at: Option<usize>) -> Result<FieldRead, NoMemory>
 /// What a piece leaves.
 #[derive(Drop)]
 pub enum Next {
-    /// The reading goes on with this.
-    Goes(Reading),
+    /// The reading goes on with this, behind so many bytes.
+    Goes(Reading, usize),
     /// The piece is bad, and this was read before it.
     Refused(Reading),
 }
 
-fn next_by(alloc: Global, reading: Reading, form: Form) -> Result<Next, NoMemory>
+fn next_by(alloc: Global, reading: Reading, form: Form, n: usize) -> Result<Next, NoMemory>
     requires { IsTrue (is_lower_form form) }
-    ensures { IfOk result (λ next. next ≡ next_by reading form) }
+    ensures { IfOk result (λ next. next ≡ next_by reading form n) }
 {
     if is_refused(&reading, &form) {
         return Ok(Next::Refused(reading));
     }
-    Ok(Next::Goes(with_form(alloc, reading, form)?))
+    Ok(Next::Goes(with_form(alloc, reading, form)?, n))
 }
 
-#[tactic(auto, using(crate::proofs::FormLemmas::lower_form))]
-fn next_of(alloc: Global, reading: Reading, bytes: &[u8]) -> Result<Next, NoMemory>
-    ensures { IfOk result (λ next. next ≡ spec.next_of reading bytes.now) }
+/// What the piece in front leaves.
+fn next_at(alloc: Global, reading: Reading, text: &[u8]) -> Result<Next, NoMemory>
+    ensures { IfOk result (λ next. next ≡ spec.next_of reading (front text.now) (first_len Quoting.Outside text.now)) }
 {
-    if bytes.len() == 0 {
-        return Ok(Next::Goes(reading));
+    if let Some(n) = blank_piece(text) {
+        return Ok(Next::Goes(reading, n));
     }
-    next_by(alloc, reading, form_of(alloc, bytes)?)
-}
-
-/// What the piece in front leaves, and how many bytes it has. A parameter is read in one pass; of any
-/// other piece the end is found first.
-fn next_at(alloc: Global, reading: Reading, text: &[u8]) -> Result<(Next, usize), NoMemory>
-    ensures next { IfOk result (λ read. read.0 ≡ spec.next_of reading (front text.now)) }
-    ensures len { IfOk result (λ read. read.1 ≡ first_len Quoting.Outside text.now) }
-    ensures within { IfOk result (λ read. read.1 ≤ length text.now) }
-{
-    match param(alloc, text)? {
-        Some((found, n)) => Ok((next_by(alloc, reading, Form::Parameter(found))?, n)),
-        None => other_at(alloc, reading, text),
+    match form(alloc, text)? {
+        Some((form, n)) => next_by(alloc, reading, form, n),
+        None => Ok(Next::Refused(reading)),
     }
-}
-
-fn other_at(alloc: Global, reading: Reading, text: &[u8]) -> Result<(Next, usize), NoMemory>
-    ensures next { IfOk result (λ read. read.0 ≡ spec.next_of reading (front text.now)) }
-    ensures len { IfOk result (λ read. read.1 ≡ first_len Quoting.Outside text.now) }
-    ensures within { IfOk result (λ read. read.1 ≤ length text.now) }
-{
-    let n = piece_len(text);
-    let bytes = trim_end(front_of(text, n));
-    let next = next_of(alloc, reading, bytes)?;
-    Ok((next, n))
 }
 
 /// Reads a field's value as a list of challenges, after RFC 7235 section 2.1. The value is cut at its
 /// commas outside quoted strings, and each piece begins a challenge or adds a parameter to the one
 /// begun last. The first piece that does neither ends the reading: `bad_at` is the place of its first
-/// byte, and the challenges begun before it stand. Of a parameter given twice the first counts.
+/// byte, and the challenges begun before it stand. Of a parameter given twice the first counts. The
+/// value is read in one pass.
 pub fn read_field(alloc: Global, value: &[u8]) -> Result<FieldRead, NoMemory>
     ensures { IfOk result (λ read. read ≡ field_read value.now) }
 {
@@ -242,16 +198,17 @@ pub fn read_field(alloc: Global, value: &[u8]) -> Result<FieldRead, NoMemory>
     let mut rest = value;
     'pieces: loop {
         let blank = blank_len(rest);
-        let (left, len) = next_at(alloc, reading, rest_of(rest, blank))?;
-        let n = blank + len;
-        match left {
-            Next::Goes(next) => reading = next,
+        match next_at(alloc, reading, rest_of(rest, blank))? {
+            Next::Goes(next, len) => {
+                let n = blank + len;
+                if n == rest.len() {
+                    return field(next, None);
+                }
+                reading = next;
+                at += n + 1;
+                rest = rest_of(rest, n + 1);
+            }
             Next::Refused(last) => return field(last, Some(at + blank)),
         }
-        if n == rest.len() {
-            return field(reading, None);
-        }
-        at += n + 1;
-        rest = rest_of(rest, n + 1);
     }
 }

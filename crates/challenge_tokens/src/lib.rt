@@ -5,6 +5,7 @@
 
 mod challenge;
 mod field;
+mod head;
 mod laws;
 mod params;
 mod piece;

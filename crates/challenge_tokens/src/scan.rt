@@ -1,5 +1,5 @@
-//! The reading of a parameter from the front of a text in one pass: the place where its piece ends is
-//! where the reading stops, and is not looked for first.
+//! The reading of a parameter's value from the front of a text in one pass: the place where its piece
+//! ends is where the reading stops, and is not looked for first.
 
 ghost use Rattle.std.specs.Prelude.{◌≡◌, ◌≤◌, true, false, length, take, drop, IfOk, IfSome};
 ghost use Rattle.auth_text.specs.Quoted.{quoted};
@@ -7,9 +7,8 @@ ghost use Rattle.challenge_tokens.specs.Forms as forms;
 ghost use Rattle.challenge_tokens.specs.Front.{front, sized};
 ghost use Rattle.challenge_tokens.specs.Front as spec;
 
-use crate::params::Param;
 use crate::piece::{blank_len, token_len};
-use auth_text::{Bytes, NoMemory, QuoteFault, fold, read_quoted};
+use auth_text::{Bytes, NoMemory, QuoteFault, read_quoted};
 use std::alloc::Global;
 
 /// The first bytes of a text.
@@ -28,7 +27,8 @@ pub fn rest_of(text: &[u8], n: usize) -> &[u8]
     &text[n..]
 }
 
-fn is_over(text: &[u8]) -> bool
+/// A comma or the end stands in front.
+pub fn is_over(text: &[u8]) -> bool
     ensures { result ≡ spec.is_over text.now }
 {
     match text {
@@ -37,7 +37,8 @@ fn is_over(text: &[u8]) -> bool
     }
 }
 
-fn starts(text: &[u8], first: u8) -> bool
+/// This byte stands in front.
+pub fn starts(text: &[u8], first: u8) -> bool
     ensures value { result ≡ spec.starts first text.now }
     ensures some { result ≡ true → 1 ≤ length text.now }
 {
@@ -48,7 +49,7 @@ fn starts(text: &[u8], first: u8) -> bool
 }
 
 /// How many blanks stand before a comma or the end, where nothing else does.
-fn blank_piece(text: &[u8]) -> Option<usize>
+pub fn blank_piece(text: &[u8]) -> Option<usize>
     ensures value { result ≡ spec.blank_piece text.now }
     ensures within { IfSome result (λ n. n ≤ length text.now) }
 {
@@ -106,7 +107,8 @@ fn quoted_value(alloc: Global, text: &[u8]) -> Result<Option<(Bytes, usize)>, No
     }
 }
 
-fn value(alloc: Global, text: &[u8]) -> Result<Option<(Bytes, usize)>, NoMemory>
+/// The value that is the piece in front, and how many bytes that piece has.
+pub fn value(alloc: Global, text: &[u8]) -> Result<Option<(Bytes, usize)>, NoMemory>
     ensures value { IfOk result (λ read. read ≡ sized (forms.value_of (front text.now)) text.now) }
     ensures within { IfOk result (λ read. IfSome read (λ x. x.1 ≤ length text.now)) }
 {
@@ -116,7 +118,8 @@ fn value(alloc: Global, text: &[u8]) -> Result<Option<(Bytes, usize)>, NoMemory>
     token_value(alloc, text)
 }
 
-fn value_behind(alloc: Global, text: &[u8]) -> Result<Option<(Bytes, usize)>, NoMemory>
+/// The value behind the `=` that the piece in front begins with, and how many bytes that piece has.
+pub fn value_behind(alloc: Global, text: &[u8]) -> Result<Option<(Bytes, usize)>, NoMemory>
     ensures value { IfOk result (λ read. read ≡ sized (forms.value_behind (front text.now)) text.now) }
     ensures within { IfOk result (λ read. IfSome read (λ x. x.1 ≤ length text.now)) }
 {
@@ -127,24 +130,6 @@ fn value_behind(alloc: Global, text: &[u8]) -> Result<Option<(Bytes, usize)>, No
     let n = blank_len(more);
     match value(alloc, rest_of(more, n))? {
         Some((value, len)) => Ok(Some((value, 1 + n + len))),
-        None => Ok(None),
-    }
-}
-
-/// The parameter that is the piece in front, and how many bytes that piece has.
-pub fn param(alloc: Global, text: &[u8]) -> Result<Option<(Param, usize)>, NoMemory>
-    ensures value { IfOk result (λ read. read ≡ sized (forms.param_of (front text.now)) text.now) }
-    ensures within { IfOk result (λ read. IfSome read (λ x. x.1 ≤ length text.now)) }
-{
-    let n = token_len(text);
-    if n == 0 {
-        return Ok(None);
-    }
-    let name = fold(alloc, front_of(text, n))?;
-    let more = rest_of(text, n);
-    let k = blank_len(more);
-    match value_behind(alloc, rest_of(more, k))? {
-        Some((value, len)) => Ok(Some((Param { name, value }, n + k + len))),
         None => Ok(None),
     }
 }
