@@ -81,7 +81,7 @@ bytes_pass (s ∷ bytes) right =
 close_quote : Passes Inside (34 ∷ []) Outside
 close_quote rest = omega arith
 
-open_quote : (x : List ℕ) → Passes Inside x Outside → IsClosed (34 ∷ x)
+pub open_quote : (x : List ℕ) → Passes Inside x Outside → IsClosed (34 ∷ x)
 open_quote x inside rest =
     let later = inside rest in
     omega (arith, later)
@@ -159,7 +159,7 @@ keep_some : (b : ℕ) (x : List ℕ) → nat_lt 0 (length x) ≡ true → keep_u
 keep_some b [] some = absurd (false≢true some)
 keep_some b (c ∷ x) some = refl
 
-keep_solid : (b : ℕ) (x : List ℕ) → is_solid b ≡ true → keep_unless_blank b x ≡ b ∷ x
+pub keep_solid : (b : ℕ) (x : List ℕ) → is_solid b ≡ true → keep_unless_blank b x ≡ b ∷ x
 keep_solid b [] solid = rw (not_true (is_blank b) solid) refl
 keep_solid b (c ∷ x) solid = refl
 

@@ -5,6 +5,12 @@ pub mod TrimLemmas
 pub mod StepLemmas
 pub mod FormLemmas
 pub mod EdgeLemmas
+pub mod FrontLemmas
+pub mod ReadLemmas
+pub mod QuoteLemmas
+pub mod ArgumentLemmas
+pub mod HeadLemmas
+pub mod SeamLemmas
 pub mod SpellingLemmas
 pub mod SpellingWalk
 pub mod SpelledFields

@@ -16,14 +16,14 @@ use Rattle.challenge_tokens.proofs.EdgeLemmas.{IsClosed, IsTrimmed, passes-appen
 
 -- ---- prefixes
 
-prefix_all : (p : ℕ → Bool) (x rest : List ℕ) → list_all p x ≡ true → prefix_len p rest ≡ 0 → prefix_len p (x ++ rest) ≡ length x
+pub prefix_all : (p : ℕ → Bool) (x rest : List ℕ) → list_all p x ≡ true → prefix_len p rest ≡ 0 → prefix_len p (x ++ rest) ≡ length x
 prefix_all p [] rest all stops = stops
 prefix_all p (b ∷ x) rest all stops =
     let parts = both (p b) (list_all p x) all in
     let later = prefix_all p x rest parts.1 stops in
     rw (parts.0, later) (one-add (length x))
 
-drop_prefix : (p : ℕ → Bool) (front x : List ℕ) → list_all p front ≡ true
+pub drop_prefix : (p : ℕ → Bool) (front x : List ℕ) → list_all p front ≡ true
     → drop (prefix_len p (front ++ x)) (front ++ x) ≡ drop (prefix_len p x) x
 drop_prefix p [] x all = refl
 drop_prefix p (b ∷ front) x all =
@@ -45,13 +45,13 @@ as_name s is =
     let parts = both (nat_lt 0 (length s)) (list_all is_token_byte s) is in
     record { some = parts.0; all = parts.1 }
 
-param_at : (s rest : List ℕ) → is_token s ≡ true → token_len rest ≡ 0
+pub param_at : (s rest : List ℕ) → is_token s ≡ true → token_len rest ≡ 0
     → param_of (s ++ rest) ≡ option_map (named s) (value_behind (trim_start rest))
 param_at s rest is stops =
     let name = as_name s is in
     rw (prefix_all is_token_byte s rest name.all stops, name.some, take-append_seam s rest, drop-append_seam s rest) refl
 
-form_at : (s rest : List ℕ) → is_token s ≡ true → token_len rest ≡ 0
+pub form_at : (s rest : List ℕ) → is_token s ≡ true → token_len rest ≡ 0
     → form_of (s ++ rest) ≡ or_param (option_map (named s) (value_behind (trim_start rest))) (head_form (folded s) rest)
 form_at s rest is stops =
     let name = as_name s is in
@@ -153,7 +153,7 @@ quoted_value bytes right =
     let all : 1 + (length inside + 1) ≡ length (34 ∷ inside ++ 34 ∷ []) = omega (arith, length-append inside (34 ∷ [])) in
     rw (read, eq-eqb (1 + (length inside + 1)) (length (34 ∷ inside ++ 34 ∷ [])) all) refl
 
-token_value : (t : List ℕ) → is_token t ≡ true → value_of t ≡ Some t
+pub token_value : (t : List ℕ) → is_token t ≡ true → value_of t ≡ Some t
 token_value [] is = absurd (false≢true is)
 token_value (b ∷ t) is =
     let name = as_name (b ∷ t) is in
@@ -169,7 +169,7 @@ trimmed_token s is =
     let name = as_name s is in
     trimmed_solid s name.some (all_of is_token_byte is_solid token_solid s name.all)
 
-closed_token : (s : List ℕ) → is_token s ≡ true → IsClosed s
+pub closed_token : (s : List ℕ) → is_token s ≡ true → IsClosed s
 closed_token s is = closed_plain s (all_of is_token_byte is_plain token_plain s (as_name s is).all)
 
 pub closed_blanks : (s : List ℕ) → are_blanks s ≡ true → IsClosed s

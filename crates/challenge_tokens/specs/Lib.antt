@@ -2,6 +2,7 @@ pub mod Bodies
 pub mod Cutting
 pub mod Examples
 pub mod Forms
+pub mod Front
 pub mod Names
 pub mod Pieces
 pub mod Reading

@@ -62,9 +62,9 @@ resume r (p ∷ ps) =
 abbrev pub start : Reading
 start = record { done = []; current = None }
 
--- what a piece leaves
-abbrev pub next_of : Reading → List ℕ → Next
-next_of r bytes =
+-- what a piece leaves, in so many bytes of the text
+abbrev pub next_of : Reading → List ℕ → ℕ → Next
+next_of r bytes n =
     if nat_lt 0 (length bytes)
-    then (if is_refused r (form_of bytes) then Refused r else Goes (with_form r (form_of bytes)))
-    else Goes r
+    then (if is_refused r (form_of bytes) then Refused r else Goes (with_form r (form_of bytes)) n)
+    else Goes r n

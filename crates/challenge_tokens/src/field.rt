@@ -1,15 +1,18 @@
 //! The reading of a whole field, piece by piece from the left, up to its end or its first bad piece.
 
-ghost use Rattle.std.specs.Prelude.{◌≡◌, ◌≤◌, [], ◌∷◌, length, take, drop, IsTrue, IfOk};
+ghost use Rattle.std.specs.Prelude.{◌≡◌, [], ◌∷◌, IsTrue, IfOk};
 ghost use Rattle.challenge_tokens.specs.Names.{is_lower};
 ghost use Rattle.challenge_tokens.specs.Forms.{is_lower_form};
-ghost use Rattle.challenge_tokens.specs.Pieces.{field_read, trim_end as trimmed_end, extend, join, takes_params};
+ghost use Rattle.challenge_tokens.specs.Pieces.{field_read, extend, join};
 ghost use Rattle.challenge_tokens.specs.Cutting.{piece_len as first_len};
+ghost use Rattle.challenge_tokens.specs.Front.{front, next_by};
 ghost use Rattle.challenge_tokens.specs.Reading as spec;
 
 use crate::challenge::{Body, Challenge, Challenges, FieldRead};
+use crate::head::form;
 use crate::params::{Param, Params};
-use crate::piece::{Form, Quoting, blank_len, form_of, is_blank};
+use crate::piece::{Form, Quoting, blank_len};
+use crate::scan::{blank_piece, rest_of};
 use auth_text::NoMemory;
 use std::alloc::Global;
 
@@ -18,31 +21,6 @@ use std::alloc::Global;
 pub struct Reading {
     pub done: Challenges,
     pub current: Option<Challenge>,
-}
-
-/// How many bytes stand before the first comma outside quoted strings.
-fn piece_len(text: &[u8]) -> usize
-    ensures value { result ≡ first_len Quoting.Outside text.now }
-    ensures within { result ≤ length text.now }
-{
-    let mut quoting = Quoting::Outside;
-    for (i, b) in text.iter().enumerate() {
-        if *b == b',' && quoting == Quoting::Outside {
-            return i;
-        }
-        quoting = quoting.after(*b);
-    }
-    text.len()
-}
-
-fn trim_end(bytes: &[u8]) -> &[u8]
-    ensures { result.now ≡ trimmed_end bytes.now }
-{
-    let mut n = bytes.len();
-    while n > 0 && is_blank(bytes[n - 1]) {
-        n -= 1;
-    }
-    &bytes[..n]
 }
 
 fn takes(current: &Option<Challenge>) -> bool
@@ -172,47 +150,43 @@ fn field(reading: Reading, bad_at: Option<usize>) -> Result<FieldRead, NoMemory>
     })
 }
 
-fn front_of(text: &[u8], n: usize) -> &[u8]
-    requires { n ≤ length text.now }
-    ensures { result.now ≡ take n text.now }
-{
-    &text[..n]
-}
-
-fn rest_of(text: &[u8], n: usize) -> &[u8]
-    requires { n ≤ length text.now }
-    ensures { result.now ≡ drop n text.now }
-{
-    &text[n..]
-}
-
 /// What a piece leaves.
 #[derive(Drop)]
 pub enum Next {
-    /// The reading goes on with this.
-    Goes(Reading),
+    /// The reading goes on with this, behind so many bytes.
+    Goes(Reading, usize),
     /// The piece is bad, and this was read before it.
     Refused(Reading),
 }
 
-#[tactic(auto, using(crate::proofs::FormLemmas::lower_form))]
-fn next_of(alloc: Global, reading: Reading, bytes: &[u8]) -> Result<Next, NoMemory>
-    ensures { IfOk result (λ next. next ≡ spec.next_of reading bytes.now) }
+fn next_by(alloc: Global, reading: Reading, form: Form, n: usize) -> Result<Next, NoMemory>
+    requires { IsTrue (is_lower_form form) }
+    ensures { IfOk result (λ next. next ≡ next_by reading form n) }
 {
-    if bytes.len() == 0 {
-        return Ok(Next::Goes(reading));
-    }
-    let form = form_of(alloc, bytes)?;
     if is_refused(&reading, &form) {
         return Ok(Next::Refused(reading));
     }
-    Ok(Next::Goes(with_form(alloc, reading, form)?))
+    Ok(Next::Goes(with_form(alloc, reading, form)?, n))
+}
+
+/// What the piece in front leaves.
+fn next_at(alloc: Global, reading: Reading, text: &[u8]) -> Result<Next, NoMemory>
+    ensures { IfOk result (λ next. next ≡ spec.next_of reading (front text.now) (first_len Quoting.Outside text.now)) }
+{
+    if let Some(n) = blank_piece(text) {
+        return Ok(Next::Goes(reading, n));
+    }
+    match form(alloc, text)? {
+        Some((form, n)) => next_by(alloc, reading, form, n),
+        None => Ok(Next::Refused(reading)),
+    }
 }
 
 /// Reads a field's value as a list of challenges, after RFC 7235 section 2.1. The value is cut at its
 /// commas outside quoted strings, and each piece begins a challenge or adds a parameter to the one
 /// begun last. The first piece that does neither ends the reading: `bad_at` is the place of its first
-/// byte, and the challenges begun before it stand. Of a parameter given twice the first counts.
+/// byte, and the challenges begun before it stand. Of a parameter given twice the first counts. The
+/// value is read in one pass.
 pub fn read_field(alloc: Global, value: &[u8]) -> Result<FieldRead, NoMemory>
     ensures { IfOk result (λ read. read ≡ field_read value.now) }
 {
@@ -223,18 +197,18 @@ pub fn read_field(alloc: Global, value: &[u8]) -> Result<FieldRead, NoMemory>
     let mut at = 0;
     let mut rest = value;
     'pieces: loop {
-        let n = piece_len(rest);
-        let piece = front_of(rest, n);
-        let blank = blank_len(piece);
-        let bytes = trim_end(rest_of(piece, blank));
-        match next_of(alloc, reading, bytes)? {
-            Next::Goes(next) => reading = next,
+        let blank = blank_len(rest);
+        match next_at(alloc, reading, rest_of(rest, blank))? {
+            Next::Goes(next, len) => {
+                let n = blank + len;
+                if n == rest.len() {
+                    return field(next, None);
+                }
+                reading = next;
+                at += n + 1;
+                rest = rest_of(rest, n + 1);
+            }
             Next::Refused(last) => return field(last, Some(at + blank)),
         }
-        if n == rest.len() {
-            return field(reading, None);
-        }
-        at += n + 1;
-        rest = rest_of(rest, n + 1);
     }
 }

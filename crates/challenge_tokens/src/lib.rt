@@ -5,9 +5,11 @@
 
 mod challenge;
 mod field;
+mod head;
 mod laws;
 mod params;
 mod piece;
+mod scan;
 mod write;
 
 pub use challenge::{Body, Challenge, Challenges, FieldRead};

@@ -1,9 +1,0 @@
-use Rattle.std.proofs.Common.{◌≡◌, ◌≤◌, length, take}
-use Rattle.challenge_tokens.specs.Pieces.{trim_end}
-use Rattle.challenge_tokens.proofs.field.trim_end.Given as goal
-
-abbrev pub invariant-loop-n : goal.invariant-loop-n
-invariant-loop-n l = (l.n ≤ length l.bytes) × (trim_end (take l.n l.bytes) ≡ trim_end l.bytes)
-
-abbrev pub decreases-loop-n : goal.decreases-loop-n
-decreases-loop-n l = l.n
