@@ -5,6 +5,7 @@ use Rattle.std.specs.Char.{is_ascii_alphanumeric}
 use Rattle.auth_text.specs.Text.{is_token_byte, folded}
 use Rattle.auth_text.specs.declared.quoted.QuoteFault.{QuoteFault}
 use Rattle.auth_text.specs.Quoted.{quoted}
+use Rattle.field_lists.specs.Blanks as blanks
 use Rattle.challenge_tokens.specs.Names.{is_lower}
 use Rattle.challenge_tokens.specs.declared.params.Param.{Param}
 use Rattle.challenge_tokens.specs.declared.piece.Form.{Form}
@@ -29,7 +30,7 @@ whole n (Err e) = None
 
 -- SP or HTAB
 abbrev pub is_blank : ℕ → Bool
-is_blank b = b == 32 || b == 9
+is_blank b = blanks.is_blank b
 
 -- without the blanks at the front
 abbrev pub trim_start : List ℕ → List ℕ

@@ -11,9 +11,10 @@ ghost use Rattle.challenge_tokens.specs.Reading as spec;
 use crate::challenge::{Body, Challenge, Challenges, FieldRead};
 use crate::head::form;
 use crate::params::{Param, Params};
-use crate::piece::{Form, Quoting, blank_len};
+use crate::piece::{Form, Quoting};
 use crate::scan::{blank_piece, rest_of};
 use auth_text::NoMemory;
+use field_lists::blank_len;
 use std::alloc::Global;
 
 /// What is read so far: the finished challenges, and the one begun last.

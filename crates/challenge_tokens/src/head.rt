@@ -8,9 +8,10 @@ ghost use Rattle.challenge_tokens.specs.Front.{front, sized, then_blank, unless_
 ghost use Rattle.challenge_tokens.specs.Front as spec;
 
 use crate::params::Param;
-use crate::piece::{Form, blank_len, common_len, equals_len, space_len, token_len, token68_len};
+use crate::piece::{Form, common_len, equals_len, space_len, token_len, token68_len};
 use crate::scan::{blank_piece, front_of, is_over, rest_of, starts, value, value_behind};
 use auth_text::{Bytes, NoMemory, fold};
+use field_lists::blank_len;
 use std::alloc::Global;
 
 /// The first n bytes as a token68, where only blanks follow them.

@@ -32,21 +32,6 @@ pub enum Form {
     Bad,
 }
 
-/// SP or HTAB.
-pub fn is_blank(b: u8) -> bool
-    ensures { result ≡ spec.is_blank b }
-{
-    b == b' ' || b == b'\t'
-}
-
-/// How many blanks stand in front.
-pub fn blank_len(bytes: &[u8]) -> usize
-    ensures value { result ≡ prefix_len spec.is_blank bytes.now }
-    ensures within { result ≤ length bytes.now }
-{
-    bytes.iter().take_while(|b| is_blank(**b)).count()
-}
-
 /// How many SP stand in front.
 pub fn space_len(bytes: &[u8]) -> usize
     ensures value { result ≡ prefix_len (λ c. c == 32) bytes.now }

@@ -7,8 +7,9 @@ ghost use Rattle.challenge_tokens.specs.Forms as forms;
 ghost use Rattle.challenge_tokens.specs.Front.{front, sized};
 ghost use Rattle.challenge_tokens.specs.Front as spec;
 
-use crate::piece::{blank_len, token_len};
+use crate::piece::token_len;
 use auth_text::{Bytes, NoMemory, QuoteFault, read_quoted};
+use field_lists::blank_len;
 use std::alloc::Global;
 
 /// The first bytes of a text.
