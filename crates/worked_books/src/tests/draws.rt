@@ -47,7 +47,7 @@ fn is_home(names: &Names, space: u32, terms: &Terms) -> bool
 }
 
 /// Whether the book may name terms and a nonce more.
-fn has_room<B: Controller>(book: &B, roster: &Roster) -> bool
+fn has_room_for_terms<B: Controller>(book: &B, roster: &Roster) -> bool
     requires { B.roster book.now ≡ roster.now }
     ensures { IsTrue result → (length (B.names book.now).terms < 64 * length (B.roster book.now).requests) × (length (B.names book.now).nonces < 16 * length (B.roster book.now).requests) }
 {
@@ -73,7 +73,7 @@ fn name_realm<B: Controller>(
     let number = name_space(rt, book, roster, &space)?;
     let terms = terms(alloc, realm)?;
     assert!(rt; is_home(book.names(), number, &terms));
-    assert!(rt; has_room(book, roster));
+    assert!(rt; has_room_for_terms(book, roster));
     let numbers = book.terms_no(1, number, &terms)?;
     Ok(numbers)
 }
