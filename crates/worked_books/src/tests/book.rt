@@ -1,0 +1,251 @@
+//! Requests, the names that calls on their book speak of, and the calls themselves.
+
+ghost use Rattle.std.specs.Prelude.{◌≡◌, ◌<◌, ◌*◌, length, IsTrue, IfOk};
+
+use crate::tests::rows::Row;
+use crate::try_call;
+use auth_events::Controller;
+use auth_text::{Bytes, Identity, NoMemory};
+use plain_book::PlainBook;
+use spaces::{
+    Method, Origins, Partition, Place, Request, Requests, Roster, Scheme, Site, Space, Target,
+    place_of,
+};
+use std::alloc::Global;
+use std::process::Abort;
+
+fn partition(alloc: Global, name: &[u8]) -> Result<Partition, NoMemory> {
+    match Partition::new(alloc, name) {
+        Ok(partition) => Ok(partition),
+        Err(_) => Err(NoMemory),
+    }
+}
+
+fn place(alloc: Global, url: &[u8]) -> Result<Place, NoMemory> {
+    match place_of(alloc, url) {
+        Ok(place) => Ok(place),
+        Err(_) => Err(NoMemory),
+    }
+}
+
+/// A GET of the URL in the partition.
+pub(crate) fn request(alloc: Global, name: &[u8], url: &[u8]) -> Result<Request, NoMemory> {
+    let partition = partition(alloc, name)?;
+    let place = place(alloc, url)?;
+    Ok(Request {
+        method: Method::Get,
+        partition,
+        place,
+        proxy: None,
+    })
+}
+
+/// The site of the request's server.
+pub(crate) fn server(request: &Request) -> Result<Site, NoMemory> {
+    let partition = request.partition.clone()?;
+    let origin = request.place.origin.clone()?;
+    Ok(Site {
+        partition,
+        target: Target::Server,
+        origin,
+    })
+}
+
+/// The Basic space of the request's server.
+fn basic(alloc: Global, request: &Request) -> Result<Space, NoMemory> {
+    let site = server(request)?;
+    let realm = Bytes::from_slice(alloc, b"x")?;
+    Ok(Space::new(site, Scheme::Basic, realm))
+}
+
+/// The requests by their partitions and URLs.
+pub(crate) fn roster_of(alloc: Global, asks: &[(&[u8], &[u8])]) -> Result<Roster, NoMemory> {
+    let mut requests = Requests::new(alloc);
+    for ask in asks {
+        requests.push(request(alloc, ask.0, ask.1)?)?;
+    }
+    Ok(Roster {
+        requests,
+        allowed: Origins::new(alloc),
+    })
+}
+
+/// A request for each host, whose name is an `h` and that letter.
+pub(crate) fn roster_of_hosts(alloc: Global, hosts: &[u8]) -> Result<Roster, NoMemory> {
+    let mut requests = Requests::new(alloc);
+    for host in hosts {
+        let mut url = Bytes::from_slice(alloc, b"http://h")?;
+        url.push(*host)?;
+        requests.push(request(alloc, b"main", url.as_slice())?)?;
+    }
+    Ok(Roster {
+        requests,
+        allowed: Origins::new(alloc),
+    })
+}
+
+fn identity(alloc: Global) -> Result<Identity, NoMemory> {
+    match Identity::new(alloc, b"u", b"p") {
+        Ok(identity) => Ok(identity),
+        Err(_) => Err(NoMemory),
+    }
+}
+
+/// Whether the book may name one more space and one more text.
+fn has_room<B: Controller>(book: &B, roster: &Roster) -> bool
+    requires { B.roster book.now ≡ roster.now }
+    ensures spaces { IsTrue result → length (B.names book.now).spaces < 64 * length (B.roster book.now).requests }
+    ensures texts { IsTrue result → length (B.names book.now).texts < 64 * length (B.roster book.now).requests }
+{
+    let names = book.names();
+    let spaces = names.spaces_len();
+    let texts = names.texts_len();
+    let requests = roster.requests.len();
+    requests <= 2048 && (spaces as usize) < 64 * requests && (texts as usize) < 64 * requests
+}
+
+/// The number of the space.
+pub(crate) fn name_space<B: Controller>(
+    rt: &impl Abort,
+    book: &mut B,
+    roster: &Roster,
+    space: &Space,
+) -> Result<u32, NoMemory>
+    requires { B.roster book.old ≡ roster.now }
+    ensures { B.roster book.new ≡ roster.now }
+{
+    assert!(rt; has_room(book, roster));
+    let number = book.space_no(1, space)?;
+    Ok(number)
+}
+
+/// Names the identity that the next prompt is answered with.
+pub(crate) fn name_text<B: Controller>(
+    rt: &impl Abort,
+    alloc: Global,
+    book: &mut B,
+    roster: &Roster,
+) -> Result<(), NoMemory>
+    requires { B.roster book.old ≡ roster.now }
+    ensures { B.roster book.new ≡ roster.now }
+{
+    let text = identity(alloc)?;
+    assert!(rt; has_room(book, roster));
+    book.text_no(1, &text)?;
+    Ok(())
+}
+
+/// Names the Basic space of the request, and a text.
+fn name_one<B: Controller>(
+    rt: &impl Abort,
+    alloc: Global,
+    book: &mut B,
+    roster: &Roster,
+    request: &Request,
+) -> Result<(), NoMemory>
+    requires { B.roster book.old ≡ roster.now }
+    ensures { B.roster book.new ≡ roster.now }
+{
+    let space = basic(alloc, request)?;
+    name_space(rt, book, roster, &space)?;
+    name_text(rt, alloc, book, roster)?;
+    Ok(())
+}
+
+/// Names the Basic space of each request, and as many texts.
+fn name_all<B: Controller>(
+    rt: &impl Abort,
+    alloc: Global,
+    book: &mut B,
+    roster: &Roster,
+) -> Result<(), NoMemory>
+    requires { B.roster book.old ≡ roster.now }
+    ensures { B.roster book.new ≡ roster.now }
+{
+    for request in roster.requests.as_slice() {
+        name_one(rt, alloc, book, roster, request)?;
+    }
+    Ok(())
+}
+
+/// Sees that the call is allowed, and that its reply is the row's. It answers the nonce that it took out.
+pub(crate) fn play_one<B: Controller>(
+    rt: &impl Abort,
+    book: &mut B,
+    roster: &Roster,
+    row: Row,
+) -> u32
+    requires { B.roster book.old ≡ roster.now }
+    ensures { B.roster book.new ≡ roster.now }
+{
+    let Some(did) = try_call(book, roster, row.0, row.call()) else {
+        panic!(rt; "request {} may not {}", row.0, row.1);
+    };
+    assert!(rt; did.reply == row.reply(), "request {}, {}", row.0, row.1);
+    did.retired
+}
+
+/// Plays the rows, each by the caller of its request's number.
+pub(crate) fn play<B: Controller>(rt: &impl Abort, book: &mut B, roster: &Roster, rows: &[Row])
+    requires { B.roster book.old ≡ roster.now }
+    ensures { B.roster book.new ≡ roster.now }
+{
+    for row in rows {
+        play_one(rt, book, roster, *row);
+    }
+}
+
+/// Names what the rows speak of, and plays their parts.
+fn play_all<B: Controller>(
+    rt: &impl Abort,
+    alloc: Global,
+    book: &mut B,
+    roster: &Roster,
+    parts: &[&[Row]],
+) -> Result<(), NoMemory>
+    requires { B.roster book.old ≡ roster.now }
+{
+    name_all(rt, alloc, book, roster)?;
+    for part in parts {
+        play(rt, book, roster, part);
+    }
+    Ok(())
+}
+
+/// An empty book of these requests.
+pub(crate) fn opened(rt: &impl Abort, alloc: Global, roster: &Roster) -> Result<PlainBook, NoMemory>
+    ensures { IfOk result (λ book. ⟦<PlainBook as Controller>⟧.roster book ≡ roster.now) }
+{
+    assert!(rt; roster.requests.len() <= 2048);
+    let book = PlainBook::new(alloc, roster)?;
+    Ok(book)
+}
+
+/// A book of these requests, which has replied as the rows say.
+pub(crate) fn played_on(
+    rt: &impl Abort,
+    alloc: Global,
+    roster: &Roster,
+    parts: &[&[Row]],
+) -> Result<PlainBook, NoMemory> {
+    let mut book = opened(rt, alloc, roster)?;
+    play_all(rt, alloc, &mut book, roster, parts)?;
+    Ok(book)
+}
+
+/// The same, of the requests that have these partitions and URLs.
+pub(crate) fn played(
+    rt: &impl Abort,
+    alloc: Global,
+    asks: &[(&[u8], &[u8])],
+    parts: &[&[Row]],
+) -> Result<PlainBook, NoMemory> {
+    let roster = roster_of(alloc, asks)?;
+    played_on(rt, alloc, &roster, parts)
+}
+
+/// The Basic space of the request of that partition and URL.
+pub(crate) fn space_of_ask(alloc: Global, ask: (&[u8], &[u8])) -> Result<Space, NoMemory> {
+    let request = request(alloc, ask.0, ask.1)?;
+    basic(alloc, &request)
+}

@@ -1,0 +1,179 @@
+//! A nonce that a server sends again and again: what is drawn on it, beside the calls on the book.
+
+ghost use Rattle.std.specs.Prelude.{◌≡◌, ◌<◌, ◌*◌, ◌+◌, ◌∷◌, [], length, IsTrue, IfOk, OnOk};
+ghost use Rattle.auth_events.specs.Tables.{is_home};
+
+use crate::tests::book::{name_space, name_text, play, play_one, request, server};
+use crate::tests::rows::{
+    AFTER_BEGIN, FIRST_ANSWER, OTHER_REALM, Row, SECOND_ANSWER, THIRD_ANSWER,
+};
+use auth_events::{Controller, Drawn, Names, TermsRef};
+use auth_text::{Bytes, NoMemory};
+use plain_book::PlainWords;
+use spaces::{Algorithm, Qop, Roster, Scheme, Space, Terms};
+use std::alloc::Global;
+use std::process::Abort;
+
+/// The Digest space of that realm.
+fn digest(alloc: Global, realm: &[u8]) -> Result<Space, NoMemory> {
+    let request = request(alloc, b"main", b"http://a.example/")?;
+    let site = server(&request)?;
+    let realm = Bytes::from_slice(alloc, realm)?;
+    Ok(Space::new(site, Scheme::Digest, realm))
+}
+
+/// Terms of that realm, with the nonce that the server always sends.
+fn terms(alloc: Global, realm: &[u8]) -> Result<Terms, NoMemory> {
+    let realm = Bytes::from_slice(alloc, realm)?;
+    let nonce = Bytes::from_slice(alloc, b"n")?;
+    Ok(Terms {
+        algorithm: Algorithm::Md5,
+        said: false,
+        realm,
+        nonce,
+        opaque: None,
+        qop: Qop::Auth,
+    })
+}
+
+/// Whether the space is a Digest space with the terms' realm.
+fn is_home(names: &Names, space: u32, terms: &Terms) -> bool
+    ensures { result ≡ is_home names.now space terms.now }
+{
+    match names.space(space) {
+        Some(named) => named.scheme() == Scheme::Digest && named.realm() == terms.realm.as_slice(),
+        None => false,
+    }
+}
+
+/// Whether the book may name terms and a nonce more.
+fn has_room_for_terms<B: Controller>(book: &B, roster: &Roster) -> bool
+    requires { B.roster book.now ≡ roster.now }
+    ensures { IsTrue result → (length (B.names book.now).terms < 64 * length (B.roster book.now).requests) × (length (B.names book.now).nonces < 16 * length (B.roster book.now).requests) }
+{
+    let names = book.names();
+    let terms = names.terms_len() as usize;
+    let nonces = names.nonces_len() as usize;
+    let requests = roster.requests.len();
+    requests <= 2048 && terms < 64 * requests && nonces < 16 * requests
+}
+
+/// The numbers of the terms of that realm.
+fn name_realm<B: Controller>(
+    rt: &impl Abort,
+    alloc: Global,
+    book: &mut B,
+    roster: &Roster,
+    realm: &[u8],
+) -> Result<TermsRef, NoMemory>
+    requires { B.roster book.old ≡ roster.now }
+    ensures { B.roster book.new ≡ roster.now }
+{
+    let space = digest(alloc, realm)?;
+    let number = name_space(rt, book, roster, &space)?;
+    let terms = terms(alloc, realm)?;
+    assert!(rt; is_home(book.names(), number, &terms));
+    assert!(rt; has_room_for_terms(book, roster));
+    let numbers = book.terms_no(1, number, &terms)?;
+    Ok(numbers)
+}
+
+/// A prompt gives credentials, which go out with this draw and are refused: that retires the nonce.
+fn is_refused<B: Controller>(
+    rt: &impl Abort,
+    alloc: Global,
+    book: &mut B,
+    roster: &Roster,
+    words: &mut PlainWords,
+    rows: &[Row; 3],
+    wanted: Drawn,
+) -> Result<(), NoMemory>
+    requires roster { B.roster book.old ≡ roster.now }
+    requires words { words.old ≡ record { count = wanted.epoch; epoch = wanted.epoch } ∷ [] }
+    requires few { wanted.epoch < 1000 }
+    ensures roster { B.roster book.new ≡ roster.now }
+    ensures words { OnOk result (words.new ≡ record { count = wanted.epoch + 1; epoch = wanted.epoch + 1 } ∷ []) }
+{
+    let [select, answer, reject] = *rows;
+    name_text(rt, alloc, book, roster)?;
+    play_one(rt, book, roster, select);
+    play_one(rt, book, roster, answer);
+    assert!(rt; words.draw(1) == wanted);
+    assert!(rt; play_one(rt, book, roster, reject) == 1);
+    words.retire(1);
+    Ok(())
+}
+
+/// Three answers are refused, after each of which the server sends the same nonce.
+fn refused_thrice<B: Controller>(
+    rt: &impl Abort,
+    alloc: Global,
+    book: &mut B,
+    roster: &Roster,
+    words: &mut PlainWords,
+) -> Result<(), NoMemory>
+    requires roster { B.roster book.old ≡ roster.now }
+    requires words { words.old ≡ record { count = 0; epoch = 0 } ∷ [] }
+    ensures roster { B.roster book.new ≡ roster.now }
+    ensures words { OnOk result (words.new ≡ record { count = 3; epoch = 3 } ∷ []) }
+{
+    let drawn = Drawn { count: 1, epoch: 0 };
+    is_refused(rt, alloc, book, roster, words, FIRST_ANSWER, drawn)?;
+    let drawn = Drawn { count: 2, epoch: 1 };
+    is_refused(rt, alloc, book, roster, words, SECOND_ANSWER, drawn)?;
+    let drawn = Drawn { count: 3, epoch: 2 };
+    is_refused(rt, alloc, book, roster, words, THIRD_ANSWER, drawn)?;
+    Ok(())
+}
+
+/// Three answers are refused in one realm.
+fn first_realm<B: Controller>(
+    rt: &impl Abort,
+    alloc: Global,
+    book: &mut B,
+    roster: &Roster,
+) -> Result<PlainWords, NoMemory>
+    requires { B.roster book.old ≡ roster.now }
+    ensures roster { B.roster book.new ≡ roster.now }
+    ensures words { IfOk result (λ words. words ≡ record { count = 3; epoch = 3 } ∷ []) }
+{
+    let mut words = PlainWords::new(alloc, 1)?;
+    let numbers = name_realm(rt, alloc, book, roster, b"d")?;
+    assert!(rt; numbers == TermsRef { terms: 1, nonce: 1 });
+    play(rt, book, roster, AFTER_BEGIN);
+    refused_thrice(rt, alloc, book, roster, &mut words)?;
+    Ok(words)
+}
+
+/// Another realm of the site goes on with the nonce.
+fn other_realm<B: Controller>(
+    rt: &impl Abort,
+    alloc: Global,
+    book: &mut B,
+    roster: &Roster,
+    words: &mut PlainWords,
+) -> Result<(), NoMemory>
+    requires roster { B.roster book.old ≡ roster.now }
+    requires words { words.old ≡ record { count = 3; epoch = 3 } ∷ [] }
+{
+    let numbers = name_realm(rt, alloc, book, roster, b"e")?;
+    assert!(rt; numbers == TermsRef { terms: 2, nonce: 1 });
+    name_text(rt, alloc, book, roster)?;
+    play(rt, book, roster, OTHER_REALM);
+    assert!(rt; words.draw(1) == Drawn { count: 4, epoch: 3 });
+    Ok(())
+}
+
+/// The counts of the nonce go on over three refusals, and into another realm of its site.
+pub(crate) fn counts_go_on<B: Controller>(
+    rt: &impl Abort,
+    alloc: Global,
+    book: &mut B,
+    roster: &Roster,
+) -> Result<(), NoMemory>
+    requires { B.roster book.old ≡ roster.now }
+{
+    let mut words = first_realm(rt, alloc, book, roster)?;
+    other_realm(rt, alloc, book, roster, &mut words)?;
+    Ok(())
+}
