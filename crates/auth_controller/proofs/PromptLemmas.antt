@@ -1,5 +1,5 @@
 -- What a prompter that is known to have an answer gives.
-use Rattle.std.proofs.Common.{◌≡◌, ℕ, List, [], ◌∷◌, IsTrue, is_some, true, false, refl, sym, ◌∙◌, ap, Some, None}
+use Rattle.std.proofs.Common.{◌≡◌, ℕ, List, [], ◌∷◌, IsTrue, is_some, true, false, sym, ◌∙◌, ap, Some, None}
 use Rattle.std.specs.declared.option.Option.{Option}
 use Rattle.auth_text.specs.Login.{Login}
 use Rattle.spaces.specs.ProtectionSpaces.{ProtectionSpace}

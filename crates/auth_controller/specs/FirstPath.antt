@@ -9,7 +9,6 @@ use Rattle.spaces.specs.declared.space.Scheme.TheVariants.{Basic}
 use Rattle.spaces.specs.ProtectionSpaces.{ProtectionSpace}
 use Rattle.spaces.specs.RequestTargets.{request_target}
 use Rattle.auth_events.specs.declared.journal.Gift.{Gift}
-use Rattle.auth_events.specs.declared.journal.Entry.{Entry}
 use Rattle.auth_events.specs.declared.journal.Call.{Call}
 use Rattle.auth_events.specs.declared.journal.Call.TheVariants.{Begin, Preempt, Select, Answer, Note, End}
 use Rattle.auth_events.specs.declared.journal.BookReply.{BookReply}

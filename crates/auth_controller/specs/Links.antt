@@ -1,5 +1,5 @@
 -- What a dialer tells of its links.
-use Rattle.std.specs.Prelude.{ℕ, ◌≡◌, ◌+◌, ◌≤◌, Bool, false, List, [], ◌∷◌, length, take, drop, filter_map, Some, None, unwrap_or, option_map}
+use Rattle.std.specs.Prelude.{ℕ, ◌≡◌, ◌≤◌, false, List, [], length, take, filter_map, Some, None, unwrap_or, option_map}
 use Rattle.std.specs.declared.option.Option.{Option}
 use Rattle.link_trait.specs.declared.links.LinkName.{LinkName}
 use Rattle.link_trait.specs.declared.dialer.Traffic.{Traffic}

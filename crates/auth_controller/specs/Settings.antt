@@ -3,7 +3,6 @@ use Rattle.std.specs.Prelude.{ℕ, List, Option, unwrap_or, option_map}
 use Rattle.auth_text.specs.Login.{Login}
 use Rattle.spaces.specs.declared.roster.Request.{Request}
 use Rattle.spaces.specs.declared.roster.Roster.{Roster}
-use Rattle.spaces.specs.declared.site.Site.{Site}
 use Rattle.spaces.specs.declared.site.Target.TheVariants.{Server}
 use Rattle.spaces.specs.declared.space.Scheme.TheVariants.{Basic}
 use Rattle.spaces.specs.ProtectionSpaces.{ProtectionSpace}

@@ -1,7 +1,7 @@
 -- What the events of one request have to be: which event may come next, and what each head carries.
 -- A past is a list of events, the latest first, so each definition looks back from the latest event.
 -- So far a request meets no proxy, no Digest or Negotiate challenge and no second challenge: where one would come, nothing may follow.
-use Rattle.std.specs.Prelude.{ℕ, ◌≡◌, ◌+◌, ◌≤◌, ◌==◌, Bool, true, false, not, ◌&&◌, nat_le, List, [], ◌∷◌, reverse, drop, Option, Some, None, is_some, unwrap_or, option_map, option_and_then, if◌then◌else◌}
+use Rattle.std.specs.Prelude.{ℕ, ◌≡◌, ◌+◌, ◌≤◌, ◌==◌, Bool, true, false, nat_le, List, [], ◌∷◌, reverse, drop, Option, Some, None, is_some, unwrap_or, option_map, option_and_then, if◌then◌else◌}
 use Rattle.std.specs.List.{list_any}
 use Rattle.auth_text.specs.Login.{Login}
 use Rattle.spaces.specs.declared.site.Target.TheVariants.{Server}
@@ -21,7 +21,7 @@ use Rattle.wire_head.specs.declared.reply.Reply.{Reply}
 use Rattle.link_trait.specs.declared.prompts.AskSeen.{AskSeen}
 use Rattle.link_trait.specs.declared.prompts.AskSeen.TheVariants.{Given as AskGiven, Cancel, Failed as AskFailed, NoMemory as AskNoMemory}
 use Rattle.auth_runs.specs.declared.event.Outcome.{Outcome}
-use Rattle.auth_runs.specs.declared.event.Outcome.TheVariants.{Answered, Refused, BadReply, LinkFailed, ProviderFailed, PromptFailed, NoMemory}
+use Rattle.auth_runs.specs.declared.event.Outcome.TheVariants.{Answered, Refused, BadReply, LinkFailed, PromptFailed, NoMemory}
 use Rattle.auth_runs.specs.declared.event.Why.TheVariants.{NoChallenge, Cancelled as By_cancel, Rounds}
 use Rattle.auth_runs.specs.declared.event.Event.{Event}
 use Rattle.auth_runs.specs.declared.event.Event.TheVariants.{Called, Dialed, DialFailed, Drew, Headed, WriteFailed, ReadFailed, Replied, Broken, LinkLost, AskedFor, Stepped, Ended}

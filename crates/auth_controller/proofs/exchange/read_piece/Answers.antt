@@ -8,7 +8,7 @@ returns-in_err-add_front-in-Bytes-clause-reads g c = only-received _ _ _ _ c.in-
 pub returns-in_ok-add_front-in-Bytes-clause-front :
     goal.returns-in_ok-add_front-in-Bytes-clause-front
 returns-in_ok-add_front-in-Bytes-clause-front g c =
-    next-front _ _ c.args.name c.in-Bytes.count _ c.args.text.now _ c.requires.streams c.requires.told c.requires.heard c.requires.front c.in-Bytes.ensures.stream c.in-Bytes.ensures.count.1 c.in_ok-add_front-in-Bytes.ensures
+    next-front _ _ c.args.name c.in-Bytes.count _ c.args.text.now _ c.requires.streams c.requires.told c.requires.heard c.requires.front c.in-Bytes.ensures.stream c.in-Bytes.ensures.count.1 c.in_ok-add_front-in-Bytes.ensures.ok
 
 pub returns-in_ok-add_front-in-Bytes-clause-reads :
     goal.returns-in_ok-add_front-in-Bytes-clause-reads

@@ -1,4 +1,4 @@
-use Rattle.std.proofs.Common.{ap, sym, ◌∙◌}
+use Rattle.std.proofs.Common.{ap, ◌∙◌}
 use Rattle.auth_runs.specs.Runs.{is_whole}
 use Rattle.auth_controller.specs.FirstPath.{link_in, server_space, answer_of, coded_events, ended, both_written}
 use Rattle.auth_controller.specs.Heard.{reply_in}
