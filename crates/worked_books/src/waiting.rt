@@ -3,7 +3,7 @@
 ghost use Rattle.std.specs.Prelude.{◌≡◌, [], ◌∷◌, List, IsTrue, replicate, reverse, take};
 ghost use Rattle.auth_events.specs.declared.journal.Call.TheVariants.{Answer, Take};
 ghost use Rattle.auth_events.specs.declared.journal.BookReply.TheVariants.{Cancelled, Pending};
-ghost use Rattle.auth_events.specs.declared.journal.Entry.{Entry};
+ghost use Rattle.auth_events.specs.declared.told.Told.{Told};
 ghost use Rattle.auth_events.specs.Book.{allowed, answer};
 ghost use Rattle.auth_events.specs.Told.{told_after};
 ghost use Rattle.auth_events.specs.Worked as worked;
@@ -13,5 +13,5 @@ ghost use Rattle.auth_events.specs.Worked as worked;
 pub fn early_takes_wait()
     ensures allowed { IsTrue (allowed (worked.roster_of (replicate 3 (worked.request_of 65))) (worked.names_of (worked.basic_in 109 65 ∷ []) 0) (reverse (take 9 (worked.shared_prompt (Answer 1 0 0) Cancelled))) 2 2 (Take 1)) }
     ensures reply { answer (worked.roster_of (replicate 3 (worked.request_of 65))) (worked.names_of (worked.basic_in 109 65 ∷ []) 0) (reverse (take 9 (worked.shared_prompt (Answer 1 0 0) Cancelled))) 2 (Take 1) ≡ Pending }
-    ensures told { (told : List Entry) → told_after told (record { caller = 2; request = 2; call = Take 1; reply = Pending }) ≡ told }
+    ensures told { (told : List Told) → told_after told (record { caller = 2; request = 2; call = Take 1; reply = Pending }) ≡ told }
 {}
