@@ -1,10 +1,11 @@
 -- What stands behind a scheme: a token68 or a parameter, from the bytes in front.
 use Rattle.std.proofs.Common.{◌≡◌, ℕ, zero, suc, ◌+◌, ◌<◌, ◌==◌, ◌&&◌, Bool, true, false, cond, List, [], ◌∷◌, ◌++◌, length, take, drop, Option, Some, None, refl, sym, ap, ◌∙◌, subst, arith, append_assoc, length-append, one-add}
 use Rattle.std.specs.List.{list_all, prefix_len}
-use Rattle.std.proofs.lemmas.Bool.{false≢true, lt-ltb, eqb-true}
-use Rattle.std.proofs.lemmas.List.{append-nil}
+use Rattle.std.specs.Option.{option_or}
+use Rattle.std.proofs.lemmas.Bool.{false≢true, lt-ltb, eqb-true, ne_eqb}
+use Rattle.std.proofs.lemmas.List.{append-nil, drop-drop}
 use Rattle.std.proofs.lemmas.List.Folds.{list_all-append}
-use Rattle.std.proofs.Math.Seq.{take-append_seam, drop-append_seam, drop-nil}
+use Rattle.std.proofs.Math.Seq.{take-append_seam, drop-append_seam}
 use Rattle.auth_text.specs.Text.{is_token_byte, folded}
 use Rattle.challenge_tokens.specs.declared.piece.Quoting.TheVariants.{Outside}
 use Rattle.challenge_tokens.specs.declared.params.Param.{Param}
@@ -75,13 +76,6 @@ first_stops p q (b ∷ x) none some =
     let off = off_first (λ c. p c && q c) b x (p b && q b) refl none in
     rw (one_of (p b) (q b) off (first_on q b x (q b) refl some)) refl
 
-pub drop_twice : (m n : ℕ) (x : List ℕ) → drop n (drop m x) ≡ drop (m + n) x
-drop_twice zero n x = ap (λ k. drop k x) (omega arith)
-drop_twice (suc m) n [] = drop-nil n ∙ sym (drop-nil (suc m + n))
-drop_twice (suc m) n (b ∷ x) =
-    let one : suc (m + n) ≡ suc m + n = omega arith in
-    drop_twice m n x ∙ ap (λ k. drop k (b ∷ x)) one
-
 -- ---- runs that hold no blank, no quote and no comma
 
 record Inner (p : ℕ → Bool) : Type 0 where
@@ -121,23 +115,19 @@ equals_inner = record { quote = refl; comma = refl; space = refl; tab = refl }
 
 -- ---- a token68, or what else there is
 
-abbrev pub or_else : {X : Type 0} → Option X → Option X → Option X
-or_else (Some x) other = Some x
-or_else None other = other
-
-or_none : {X : Type 0} (r : Option X) → or_else r None ≡ r
+or_none : {X : Type 0} (r : Option X) → option_or r None ≡ r
 or_none None = refl
 or_none (Some x) = refl
 
 by_end : (y a scheme text : List ℕ) (n m : ℕ) (other : Form) → prefix_len is_equals y ≡ 0 → piece_len Outside text ≡ n + m
     → sized (unless_bad (cond (list_all is_equals y) (WithToken scheme (a ++ y)) other)) text
-    ≡ or_else (then_blank (WithToken scheme a) n (if_empty y m)) (sized (unless_bad other) text)
+    ≡ option_or (then_blank (WithToken scheme a) n (if_empty y m)) (sized (unless_bad other) text)
 by_end [] a scheme text n m other ends len = rw (append-nil a) (ap (λ k. Some (WithToken scheme a, k)) len)
 by_end (c ∷ y) a scheme text n m other ends len = rw (off_first is_equals c y (c == 61) refl ends) refl
 
 token68_whole : (text x rest w z scheme : List ℕ) (other : Form) → Parts is_token68_byte text x rest → Parts is_equals rest w z → 0 < length x
     → sized (unless_bad (cond (is_token68 (front text)) (WithToken scheme (front text)) other)) text
-    ≡ or_else (then_blank (WithToken scheme (x ++ w)) (length x + length w) (blank_piece z)) (sized (unless_bad other) text)
+    ≡ option_or (then_blank (WithToken scheme (x ++ w)) (length x + length w) (blank_piece z)) (sized (unless_bad other) text)
 token68_whole text x rest w z scheme other parts padding some =
     let a = run is_token68_byte token68_inner text x rest parts in
     let b = run is_equals equals_inner rest w z padding in
@@ -164,18 +154,18 @@ seam text x rest w z n first second is =
 token68_by : (text x rest w z scheme : List ℕ) (m p : ℕ) (other : Form) → Parts is_token68_byte text x rest → Parts is_equals rest w z → 0 < m
     → length x ≡ m → length w ≡ p
     → sized (unless_bad (cond (is_token68 (front text)) (WithToken scheme (front text)) other)) text
-    ≡ or_else (then_blank (WithToken scheme (take (m + p) text)) (m + p) (blank_piece (drop (m + p) text))) (sized (unless_bad other) text)
+    ≡ option_or (then_blank (WithToken scheme (take (m + p) text)) (m + p) (blank_piece (drop (m + p) text))) (sized (unless_bad other) text)
 token68_by text x rest w z scheme m p other parts padding some first second =
     let len : length x + length w ≡ m + p = omega (arith, first, second) in
     let both = seam text x rest w z (m + p) parts.split padding.split len in
     token68_whole text x rest w z scheme other parts padding (omega (arith, first))
-    ∙ ap (λ k. or_else (then_blank (WithToken scheme (x ++ w)) k (blank_piece z)) (sized (unless_bad other) text)) len
-    ∙ ap (λ t. or_else (then_blank (WithToken scheme t) (m + p) (blank_piece z)) (sized (unless_bad other) text)) (sym both.0)
-    ∙ ap (λ t. or_else (then_blank (WithToken scheme (take (m + p) text)) (m + p) (blank_piece t)) (sized (unless_bad other) text)) (sym both.1)
+    ∙ ap (λ k. option_or (then_blank (WithToken scheme (x ++ w)) k (blank_piece z)) (sized (unless_bad other) text)) len
+    ∙ ap (λ t. option_or (then_blank (WithToken scheme t) (m + p) (blank_piece z)) (sized (unless_bad other) text)) (sym both.0)
+    ∙ ap (λ t. option_or (then_blank (WithToken scheme (take (m + p) text)) (m + p) (blank_piece t)) (sized (unless_bad other) text)) (sym both.1)
 
 token68_at : (text scheme : List ℕ) (m p : ℕ) (other : Form) → m ≡ prefix_len is_token68_byte text → p ≡ prefix_len is_equals (drop m text) → 0 < m
     → sized (unless_bad (cond (is_token68 (front text)) (WithToken scheme (front text)) other)) text
-    ≡ or_else (then_blank (WithToken scheme (take (m + p) text)) (m + p) (blank_piece (drop (m + p) text))) (sized (unless_bad other) text)
+    ≡ option_or (then_blank (WithToken scheme (take (m + p) text)) (m + p) (blank_piece (drop (m + p) text))) (sized (unless_bad other) text)
 token68_at text scheme m p other first second some =
     let len = prefix_len is_token68_byte text in
     let rest = drop len text in
@@ -221,14 +211,8 @@ abbrev behind_blank : List ℕ → Option (List ℕ × ℕ)
 behind_blank text =
     later (prefix_len is_blank text) (sized (value_behind (front (drop (prefix_len is_blank text) text))) (drop (prefix_len is_blank text) text))
 
-greater : (n k : ℕ) (u : Bool) → (n == k) ≡ u → k < n → u ≡ false
-greater n k true e less =
-    let same : n ≡ k = eqb-true n k e in
-    absurd (omega arith)
-greater n k false e less = refl
-
 many_equals : (n : ℕ) (text : List ℕ) → 1 < n → value_after n text ≡ None
-many_equals n text many = rw (greater n 0 (n == 0) refl (omega arith), greater n 1 (n == 1) refl many) refl
+many_equals n text many = rw (ne_eqb n 0 (λ e. omega (arith, e, many)), ne_eqb n 1 (λ e. omega (arith, e, many))) refl
 
 equals_more : (x : List ℕ) (q k : ℕ) → q ≡ prefix_len is_equals x → k ≡ prefix_len is_blank (drop q x)
     → later (suc q + k) (value_after (suc q) (drop k (drop q x))) ≡ sized (value_behind (front (61 ∷ x))) (61 ∷ x)
@@ -283,19 +267,19 @@ pub token_ends : (text scheme token : List ℕ) (n p k : ℕ) → n ≡ prefix_l
     → token ≡ take (n + p) text → Some k ≡ blank_piece (drop p (drop n text)) → IsRead (Some (WithToken scheme token, n + p + k)) scheme text
 token_ends text scheme token n p k is padding some copy blank =
     let other = head_param scheme (param_of (front text)) in
-    let ends : blank_piece (drop (n + p) text) ≡ Some k = ap blank_piece (sym (drop_twice n p text)) ∙ sym blank in
+    let ends : blank_piece (drop (n + p) text) ≡ Some k = ap blank_piece (sym (drop-drop p n text)) ∙ sym blank in
     ap (λ t. Some (WithToken scheme t, n + p + k)) copy
     ∙ sym (token68_at text scheme n p other is padding some
-    ∙ ap (λ b. or_else (then_blank (WithToken scheme (take (n + p) text)) (n + p) b) (sized (unless_bad other) text)) ends)
+    ∙ ap (λ b. option_or (then_blank (WithToken scheme (take (n + p) text)) (n + p) b) (sized (unless_bad other) text)) ends)
 
 -- more than blanks behind
 pub token_fails : (text scheme : List ℕ) (n p : ℕ) → n ≡ prefix_len is_token68_byte text → p ≡ prefix_len is_equals (drop n text) → 0 < n
     → None ≡ blank_piece (drop p (drop n text)) → IsRead (sized (unless_bad (head_param scheme (param_of (front text)))) text) scheme text
 token_fails text scheme n p is padding some blank =
     let other = head_param scheme (param_of (front text)) in
-    let ends : blank_piece (drop (n + p) text) ≡ None = ap blank_piece (sym (drop_twice n p text)) ∙ sym blank in
+    let ends : blank_piece (drop (n + p) text) ≡ None = ap blank_piece (sym (drop-drop p n text)) ∙ sym blank in
     sym (token68_at text scheme n p other is padding some
-    ∙ ap (λ b. or_else (then_blank (WithToken scheme (take (n + p) text)) (n + p) b) (sized (unless_bad other) text)) ends)
+    ∙ ap (λ b. option_or (then_blank (WithToken scheme (take (n + p) text)) (n + p) b) (sized (unless_bad other) text)) ends)
 
 -- what is known of the bytes that a token and a token68 may hold alike
 pub common_token68 : (text : List ℕ) (c m : ℕ) → c ≡ prefix_len is_common text → m ≡ prefix_len is_token68_byte (drop c text)
@@ -325,8 +309,8 @@ only_token68 text scheme c m p is more some padding =
     head_sized scheme text (param_of (front text)) ∙ ap (with_scheme scheme) (no_param_by text c all blank equals) in
     let found = then_blank (WithToken scheme (take (c + m + p) text)) (c + m + p) (blank_piece (drop (c + m + p) text)) in
     sym (token68_at text scheme (c + m) p (head_param scheme (param_of (front text))) (common_token68 text c m is more)
-    (padding ∙ ap (prefix_len is_equals) (drop_twice c m text)) (omega (arith, some))
-    ∙ ap (or_else found) none ∙ or_none found)
+    (padding ∙ ap (prefix_len is_equals) (drop-drop m c text)) (omega (arith, some))
+    ∙ ap (option_or found) none ∙ or_none found)
 
 fails_by : (text scheme : List ℕ) (c : ℕ) → c ≡ prefix_len is_token68_byte text → 0 < token_len (drop c text)
     → IsRead (sized (unless_bad (head_param scheme (param_of (front text)))) text) scheme text

@@ -2,6 +2,7 @@
 use Rattle.std.proofs.Common.{◌≡◌, ℕ, zero, suc, ◌+◌, ◌<◌, ◌==◌, Bool, true, false, cond, List, [], ◌∷◌, ◌++◌, length, take, drop, Option, Some, None, option_map, refl, sym, ap, ◌∙◌, subst, arith}
 use Rattle.std.specs.List.{list_all, prefix_len}
 use Rattle.std.proofs.lemmas.Bool.{false≢true, eqb-true}
+use Rattle.std.proofs.lemmas.List.{drop-drop}
 use Rattle.auth_text.specs.Text.{is_token_byte, folded}
 use Rattle.challenge_tokens.specs.declared.piece.Quoting.TheVariants.{Outside}
 use Rattle.challenge_tokens.specs.declared.params.Param.{Param}
@@ -15,7 +16,7 @@ use Rattle.challenge_tokens.proofs.EdgeLemmas.{all_of}
 use Rattle.challenge_tokens.proofs.SpellingLemmas.{drop_prefix, closed_blanks, form_at}
 use Rattle.challenge_tokens.proofs.FrontLemmas.{Parts, parts_of, behind_blanks, front_blanks, front_stops, off_first, blank_piece_is}
 use Rattle.challenge_tokens.proofs.ReadLemmas.{later, sized_later, behind, no_equals, front_starts, token_parts}
-use Rattle.challenge_tokens.proofs.ArgumentLemmas.{prefix_over, run_stops, byte_off, blank_off, drop_twice, no_argument}
+use Rattle.challenge_tokens.proofs.ArgumentLemmas.{prefix_over, run_stops, byte_off, blank_off, no_argument}
 
 abbrev is_space : ℕ → Bool
 is_space b = b == 32
@@ -105,7 +106,7 @@ gap_all : (text : List ℕ) (s h : ℕ) → Gap text s h → s + h ≡ prefix_le
 gap_all text s h gap = rw (gap.blanks, gap.spaces) (sym (prefix_over is_space is_blank space_blank text))
 
 gap_over : (text : List ℕ) (s h : ℕ) (u : Bool) → is_over (drop h (drop s text)) ≡ u → is_over (drop (s + h) text) ≡ u
-gap_over text s h u over = ap is_over (sym (drop_twice s h text)) ∙ over
+gap_over text s h u over = ap is_over (sym (drop-drop h s text)) ∙ over
 
 gap_some : (text : List ℕ) (s h : ℕ) → Gap text s h → is_over (drop h (drop s text)) ≡ false → None ≡ blank_piece text
 gap_some text s h gap over = blank_piece_is text (s + h) false (gap_all text s h gap) (gap_over text s h false over)
@@ -164,7 +165,7 @@ value_found token text s h r gap over on read =
     let rest = drop (s + h) text in
     let bad = head_stops token text s (gap_some text s h gap over) gap.spaces
     (stops_gap is_token68_byte refl refl refl (drop s text) h gap.blanks on) (stops_gap is_token_byte refl refl refl (drop s text) h gap.blanks on) in
-    ap (λ x. as_param token (later (s + h) x)) (read ∙ ap (λ t. sized (value_behind (front t)) t) (drop_twice s h text))
+    ap (λ x. as_param token (later (s + h) x)) (read ∙ ap (λ t. sized (value_behind (front t)) t) (drop-drop h s text))
     ∙ value_by (value_behind (front rest)) token text rest (s + h) (head_form token (front text)) bad b.len
     ∙ ap (λ y. sized (unless_bad (or_param (option_map (as_value token) (value_behind y)) (head_form token (front text)))) text) (sym b.trimmed)
 
@@ -176,7 +177,7 @@ head_alone token text s h gap off =
     let b = behind text (s + h) (gap_all text s h gap) in
     let rest = drop (s + h) text in
     ap (λ v. or_param (option_map (as_value token) v) (head_form token (front text)))
-    (ap value_behind b.trimmed ∙ no_equals (front rest) (front_starts 61 rest (ap (starts 61) (sym (drop_twice s h text)) ∙ off)))
+    (ap value_behind b.trimmed ∙ no_equals (front rest) (front_starts 61 rest (ap (starts 61) (sym (drop-drop h s text)) ∙ off)))
 
 bad_by : (token text : List ℕ) → after_token token (front text) ≡ Bad → IsFound None token text
 bad_by token text bad = sym (ap (λ (f : Form). sized (unless_bad f) text) bad)
