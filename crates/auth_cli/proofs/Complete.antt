@@ -1,12 +1,11 @@
 -- Faults aside, the text decides how a command ends.
-use Rattle.std.proofs.Common.{◌≡◌, ◌⊎◌, inl, inr, true, false, ℕ, ◌+◌, ◌≤◌, ◌<◌, ◌↔◌, List, [], ◌∷◌, ◌++◌, length, refl, sym, ◌∙◌, ap, arith, length-append, Option, Some, None, Result, Ok, Err, nat_lt, if◌then◌else◌}
+use Rattle.std.proofs.Common.{◌≡◌, ◌⊎◌, inl, inr, true, false, ℕ, ◌+◌, ◌<◌, List, ◌++◌, length, refl, sym, ◌∙◌, ap, arith, length-append, Option, Some, None, Result, Ok, Err, nat_lt}
 use Rattle.std.proofs.lemmas.List.{append-nil}
 use Rattle.std.proofs.lemmas.Bool.{le-ltb, lt-ltb}
 use Rattle.std.specs.Io.KnownBytes.{prepend_known, IsAtEnd}
 use Rattle.session_text.specs.declared.session.Session.{Session}
 use Rattle.session_text.specs.declared.session.SessionFault.{SessionFault}
 use Rattle.session_text.specs.declared.session.What.{What}
-use Rattle.session_text.specs.declared.session.What.TheVariants.{Bytes, Requests, Workers}
 use Rattle.session_text.specs.Sessions.{session, ◌>=>◌}
 use Rattle.session_text.specs.FirstPath.{first_path_leaves}
 use Rattle.auth_cli.specs.Statuses.{IsCaused, WasJudged, WasTooLong, expected, asked_by, in_form, status_of}

@@ -1,5 +1,5 @@
 -- What was served is a run of its session.
-use Rattle.std.proofs.Common.{◌≡◌, ℕ, ◌+◌, ◌-◌, ◌≤◌, ◌==◌, Bool, true, false, ◌&&◌, List, [], ◌∷◌, ◌++◌, length, reverse, refl, sym, ◌∙◌, ap, subst, arith, bytes_eq, nat_eq, Option, Some, None, IsTrue, eqb-true}
+use Rattle.std.proofs.Common.{◌≡◌, ℕ, ◌==◌, Bool, true, false, List, [], ◌∷◌, length, refl, sym, ◌∙◌, ap, subst, arith, Option, Some, eqb-true}
 use Rattle.std.proofs.lemmas.Bool.{eq-eqb}
 use Rattle.auth_text.specs.Login.{Login}
 use Rattle.spaces.specs.ProtectionSpaces.{ProtectionSpace}
@@ -7,7 +7,6 @@ use Rattle.spaces.specs.declared.roster.Request.{Request}
 use Rattle.spaces.specs.declared.roster.Roster.{Roster}
 use Rattle.auth_events.proofs.Same.{bytes_refl}
 use Rattle.auth_events.specs.Book.{IsLegal}
-use Rattle.auth_events.specs.Fresh.{fresh}
 use Rattle.auth_events.specs.Told.{journal, names_told}
 use Rattle.auth_events.specs.declared.told.Told.{Told}
 use Rattle.auth_events.specs.declared.journal.BookReply.TheVariants.{Begun, Nothing, Lead, Given, Noted, Ended}
@@ -16,7 +15,7 @@ use Rattle.link_trait.specs.Prompts.{answer_in}
 use Rattle.session_text.specs.declared.session.Session.{Session}
 use Rattle.wire_head.specs.declared.reply.Reply.{Reply}
 use Rattle.auth_runs.specs.declared.event.Event.{Event}
-use Rattle.auth_runs.specs.Runs.{Run, history, trace, AreOnce, Each, made_by, calls_of}
+use Rattle.auth_runs.specs.Runs.{Run, history, AreOnce, Each, made_by, calls_of}
 use Rattle.auth_controller.specs.FirstPath.{IsPlain, IsChallenge, IsLast, first_gift, link_in, lone_roster, server_space, ended, all_events}
 use Rattle.auth_controller.specs.Challenges.{first_realm}
 use Rattle.auth_controller.specs.Traces.{is_challenge}

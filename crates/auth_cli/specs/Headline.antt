@@ -1,5 +1,5 @@
 -- What a command's text tells of the session that was read.
-use Rattle.std.specs.Prelude.{ℕ, ◌≡◌, ◌≤◌, true, IsTrue, List, length, reverse, Option, Some, Result, Ok, Err}
+use Rattle.std.specs.Prelude.{ℕ, ◌≡◌, ◌≤◌, IsTrue, List, length, reverse, Option, Some, Ok}
 use Rattle.spaces.specs.declared.roster.Request.{Request}
 use Rattle.spaces.specs.Sites.{numbered}
 use Rattle.auth_events.specs.Book.{IsLegal}

@@ -1,5 +1,5 @@
 -- The runs of the sessions that are served so far: without a request, and with one that meets one Basic challenge.
-use Rattle.std.specs.Prelude.{ℕ, ◌≡◌, List, [], ◌∷◌, Option, Some}
+use Rattle.std.specs.Prelude.{ℕ, List, [], ◌∷◌, Option, Some}
 use Rattle.auth_text.specs.Login.{Login}
 use Rattle.spaces.specs.ProtectionSpaces.{ProtectionSpace}
 use Rattle.spaces.specs.declared.roster.Method.{Method}
