@@ -3,3 +3,4 @@ pub mod Commands
 pub mod Statuses
 pub mod Headline
 pub mod Served
+pub mod Standard

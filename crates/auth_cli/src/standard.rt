@@ -1,5 +1,11 @@
-//! A source over any of std's readers, and a sink over any of std's writers. What the real world
-//! gives and takes is told by no clause; only the count of failures is.
+//! A source over any of std's readers, and a sink over any of std's writers. What they tell is the count
+//! of failures alone, since what the real world gives and takes is known to no clause; where a reader's
+//! or a writer's bytes are known, each call says what it did to them.
+
+ghost use Rattle.std.specs.Prelude.{◌≡◌, ◌≢◌, ◌<◌, ◌≤◌, true, length};
+ghost use Rattle.link_trait.specs.Faults.{Rose};
+ghost use Rattle.link_trait.specs.Streams.{IsGivenCount, IsTakenCount};
+ghost use Rattle.auth_cli.specs.Standard.{Gave, Taken};
 
 use link_trait::{Got, Sink, Source, Took};
 use std::io::{Read, Write};
@@ -35,7 +41,14 @@ impl<R: Read> Source for StdSource<R> {
 
     ghost quiet = { λ it. ⊥ };
 
-    fn read(&mut self, buf: &mut [u8]) -> Got {
+    fn read(&mut self, buf: &mut [u8]) -> Got
+        requires { 0 < length buf.old }
+        ensures gave { Gave (R.remaining self.old.inner) (R.remaining self.new.inner) result buf.new }
+        ensures count { IsGivenCount result (length buf.new) }
+        ensures later { self.old.faults ≤ self.new.faults }
+        ensures failed { result ≡ Got.Failed → Rose true self.old.faults self.new.faults }
+        ensures memory { result ≢ Got.NoMemory }
+    {
         match self.inner.read(buf) {
             Ok(0) => Got::End,
             Ok(count) => Got::Bytes(count),
@@ -83,7 +96,12 @@ impl<W: Write> Sink for StdSink<W> {
 
     ghost quiet = { λ it. ⊥ };
 
-    fn write(&mut self, bytes: &[u8]) -> Took {
+    fn write(&mut self, bytes: &[u8]) -> Took
+        ensures taken { Taken (W.contents self.old.inner) (W.contents self.new.inner) result bytes.now }
+        ensures count { IsTakenCount result (length bytes.now) }
+        ensures later { self.old.faults ≤ self.new.faults }
+        ensures failed { result ≡ Took.Failed → Rose true self.old.faults self.new.faults }
+    {
         match self.inner.write(bytes) {
             Ok(0) | Err(_) => {
                 self.faults = self.faults.saturating_add(1);
