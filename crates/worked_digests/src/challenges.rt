@@ -1,18 +1,19 @@
 //! Challenges of the standards and of servers, with the terms that they ask for or the cause for which
 //! they are passed over, read by hand by RFC 7616.
 
-use crate::{Passed, TermsRead, terms_of};
 use auth_text::{Bytes, NoMemory};
 use challenge_tokens::{Challenge, read_field};
+use digest_handler::{Passed, TermsRead, terms_of};
 use spaces::{Algorithm, Qop};
 use std::alloc::Global;
 use std::test::Fail;
 
-// Each with its algorithm, whether that was said, qop, whether stale, and realm, nonce and opaque. The
+// Each with its algorithm, whether that was said, qop, whether stale, `userhash` where the user name is
+// to be hashed, and realm, nonce and opaque. The
 // first two are those of RFC 2617, section 3.5, and RFC 7616, section 3.9.1; then as Apache, squid,
 // WEBrick, Flask and the Digest module for nginx send them; then names in another case, a qop that
-// names nothing, and no realm.
-const READ: [(&[u8], &[u8]); 9] = [
+// names nothing, and no realm; then user names that are hashed and not.
+const READ: [(&[u8], &[u8]); 13] = [
     (
         b"Digest realm=\"testrealm@host.com\", qop=\"auth,auth-int\", nonce=\"dcd98b7102dd2f0e8b11d0f600bfb0c093\", opaque=\"5ccc069c403ebaf9f0171e9517f40e41\"",
         b"MD5 unsaid auth fresh|testrealm@host.com|dcd98b7102dd2f0e8b11d0f600bfb0c093|5ccc069c403ebaf9f0171e9517f40e41",
@@ -47,6 +48,22 @@ const READ: [(&[u8], &[u8]); 9] = [
     ),
     (
         b"Digest realm=r, nonce=n, qop=\" , \", stale=yes",
+        b"MD5 unsaid missing fresh|r|n",
+    ),
+    (
+        b"Digest realm=r, nonce=n, algorithm=SHA-256, qop=auth, userhash=true",
+        b"SHA-256 said auth fresh userhash|r|n",
+    ),
+    (
+        b"Digest USERHASH=\"True\", realm=r, nonce=n, stale=true",
+        b"MD5 unsaid missing stale userhash|r|n",
+    ),
+    (
+        b"Digest realm=r, nonce=n, userhash=false",
+        b"MD5 unsaid missing fresh|r|n",
+    ),
+    (
+        b"Digest realm=r, nonce=n, userhash=truest, userhash=true",
         b"MD5 unsaid missing fresh|r|n",
     ),
 ];
@@ -124,6 +141,7 @@ fn shown(alloc: Global, read: &TermsRead) -> Result<Bytes, NoMemory> {
     text.extend_from_slice(choice(terms.said, b" said", b" unsaid"))?;
     text.extend_from_slice(qop_word(terms.qop))?;
     text.extend_from_slice(choice(read.stale, b" stale", b" fresh"))?;
+    text.extend_from_slice(choice(terms.userhash, b" userhash", b""))?;
     push_part(&mut text, terms.realm.as_slice())?;
     push_part(&mut text, terms.nonce.as_slice())?;
     if let Some(opaque) = &terms.opaque {
