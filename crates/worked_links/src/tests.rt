@@ -1,10 +1,13 @@
-//! What answers from memory, each with ample memory and with its failures: the source and the sink
-//! also through their traits.
+//! What answers from memory, each with ample memory and with its failures, through its trait.
 
 ghost use Rattle.std.specs.Prelude.{◌<◌, length};
 
-use super::*;
 use auth_text::{Bytes, Identity, Items};
+use link_trait::{
+    Answers, Asked, Calls, Dialed, Dialer, FailingPrompter, Got, LinkName, Links, MemSink,
+    MemSource, NoTokens, Prompter, RecordedDialer, ScriptTokens, Sink, Source, Step, Steps, Tokens,
+    Took, Wrote,
+};
 use spaces::{Origin, Partition, Scheme, Site, Space, Target};
 use std::alloc::Global;
 use std::test::Fail;
@@ -138,6 +141,11 @@ fn a_prompter_answers_by_space_and_ordinal(rt: HostRuntime) -> Result<(), Fail> 
             .push((space(alloc, realm)?, given))
             .map_err(|_| "memory")?;
     }
+    let given = Some(identity(alloc, b"Sindbad")?);
+    answers
+        .push_times((space(alloc, b"z")?, given), 2048)
+        .map_err(|_| "memory")?;
+    assert_eq!(rt; answers.len(), 2051);
     let mut prompter = FailingPrompter::new(alloc, &answers, calls(alloc, &[3])?)?;
     for (realm, ordinal, wanted) in [
         (b"x", 2, b"Morgana".as_slice()),
@@ -145,6 +153,9 @@ fn a_prompter_answers_by_space_and_ordinal(rt: HostRuntime) -> Result<(), Fail> 
         (b"x", 1, b"failed".as_slice()),
         (b"x", 1, b"Aladdin".as_slice()),
         (b"y", 2, b"cancel".as_slice()),
+        (b"z", 1, b"Sindbad".as_slice()),
+        (b"z", 2048, b"Sindbad".as_slice()),
+        (b"z", 2049, b"cancel".as_slice()),
     ] {
         let found = asked(alloc, &mut prompter, realm, ordinal)?;
         assert_eq!(rt; found.as_slice(), wanted);
