@@ -1,7 +1,7 @@
 //! Commands from their words to their text: the worked session, each refusal, and failures in
 //! mid-stream.
 
-use crate::*;
+use auth_cli::{Gear, Gears, Status, What, Word, authfetch, authfetch_alone};
 use auth_text::{Bytes, Items};
 use link_trait::{Calls, MemSink, MemSource, NoTokens, RecordedDialer};
 use std::alloc::Global;
