@@ -1,12 +1,25 @@
 -- What was served is a run of its session.
-use Rattle.std.proofs.Common.{◌≡◌, ℕ, ◌==◌, Bool, true, false, List, [], ◌∷◌, length, refl, sym, ◌∙◌, ap, subst, arith, Option, Some, eqb-true}
+use Rattle.std.proofs.Common.{IsTrue, ◌≡◌, ℕ, ◌==◌, Bool, true, false, List, [], ◌∷◌, length, refl, sym, ◌∙◌, ap, subst, arith, Option, Some, eqb-true}
 use Rattle.std.proofs.lemmas.Bool.{eq-eqb}
+use Rattle.std.specs.Prelude.{Result, Ok, Err, None}
+use Rattle.std.specs.List.{list_all}
+use Rattle.wire_head.specs.Replies.{reply}
+use Rattle.wire_head.specs.FinalHeads.{values_fit}
+use Rattle.wire_head.specs.declared.reply.WireFault.{WireFault}
+use Rattle.wire_head.proofs.FinalHeadLemmas.{shown_values_fit}
+use Rattle.spaces.specs.declared.roster.Method.{Method}
+use Rattle.link_trait.specs.Links.{Stream}
 use Rattle.auth_text.specs.Login.{Login}
 use Rattle.spaces.specs.ProtectionSpaces.{ProtectionSpace}
 use Rattle.spaces.specs.declared.roster.Request.{Request}
 use Rattle.spaces.specs.declared.roster.Roster.{Roster}
 use Rattle.auth_events.proofs.Same.{bytes_refl}
 use Rattle.auth_events.specs.Book.{IsLegal}
+use Rattle.auth_events.specs.Fresh.{fresh}
+use Rattle.auth_events.specs.Tables.{Tables, AreNames, AreFew, no_names, with_space}
+use Rattle.auth_events.proofs.Naming.{AreNames-none, AreNames-space, AreNames-text}
+use Rattle.isolation.proofs.Law.{alone_legal}
+use Rattle.isolation.proofs.FreshLaw.{alone_fresh}
 use Rattle.auth_events.specs.Told.{journal, names_told}
 use Rattle.auth_events.specs.declared.told.Told.{Told}
 use Rattle.auth_events.specs.declared.journal.BookReply.TheVariants.{Begun, Nothing, Lead, Given, Noted, Ended}
@@ -15,12 +28,12 @@ use Rattle.link_trait.specs.Prompts.{answer_in}
 use Rattle.session_text.specs.declared.session.Session.{Session}
 use Rattle.wire_head.specs.declared.reply.Reply.{Reply}
 use Rattle.auth_runs.specs.declared.event.Event.{Event}
-use Rattle.auth_runs.specs.Runs.{Run, history, AreOnce, Each, made_by, calls_of}
+use Rattle.auth_runs.specs.Runs.{Run, history, trace, AreOnce, Each, made_by, calls_of}
 use Rattle.auth_controller.specs.FirstPath.{IsPlain, IsChallenge, IsLast, first_gift, link_in, lone_roster, server_space, ended, all_events}
 use Rattle.auth_controller.specs.Challenges.{first_realm}
 use Rattle.auth_controller.specs.Traces.{is_challenge}
-use Rattle.auth_controller.specs.Heard.{reply_in, IsAnswered}
-use Rattle.auth_cli.specs.Headline.{IsRunOf, IsTraceIn, IsHeardIn}
+use Rattle.auth_controller.specs.Heard.{reply_in, reply_shown, IsAnswered}
+use Rattle.auth_cli.specs.Headline.{IsRunOf, IsTraceIn, IsHeardIn, IsApart, has_fit_values}
 use Rattle.auth_cli.specs.Served.{first_run, empty_run}
 
 legal_run : (seed : List ℕ) (request : Request) (challenge : Reply) (realm : List ℕ) (login : Login) (last : Reply) → IsPlain request
@@ -60,6 +73,36 @@ answered_run : (seed : List ℕ) (request : Request) (challenge : Reply) (realm 
     → Each (λ entry. IsAnswered answers (first_run seed request challenge realm login last).names (first_run seed request challenge realm login last).journal entry.call) (first_run seed request challenge realm login last).journal
 answered_run seed request challenge realm login last answers given = (tt, (tt, (tt, (sym given, (tt, (tt, tt))))))
 
+-- what a stream shows is a whole reply
+shown_whole : (x : Result (Option (Reply × ℕ)) WireFault) (r : Reply) → reply_shown x ≡ Some r → (n : ℕ) × (x ≡ Ok (Some (r, n)))
+shown_whole (Ok (Some (s, n))) r is = let same : s ≡ r = cc in (n, ap (λ (t : Reply). Ok (Some (t, n))) same)
+shown_whole (Ok None) r is = absurd (cc is)
+shown_whole (Err fault) r is = absurd (cc is)
+
+-- so its values fit its code
+fit_shown : (method : Method) (stream : Stream) (r : Reply) → reply_in method stream ≡ Some r → values_fit r ≡ true
+unfolding reply_in
+fit_shown method stream r is =
+    let whole = shown_whole (reply method stream.bytes stream.ended) r is in
+    shown_values_fit stream.bytes r (method, stream.ended, whole.0, whole.1)
+
+fit_run : (seed : List ℕ) (request : Request) (challenge : Reply) (realm : List ℕ) (login : Login) (last : Reply)
+    → values_fit challenge ≡ true → values_fit last ≡ true
+    → IsTrue (list_all has_fit_values (all_events request challenge login last))
+fit_run seed request challenge realm login last first second = rw first (rw second refl)
+
+-- the names of the first path: one space and one text
+named_run : (request : Request) (realm : List ℕ) (login : Login)
+    → AreNames (record { spaces = server_space request realm ∷ []; terms = []; nonces = []; texts = login ∷ [] })
+named_run request realm login =
+    let space = server_space request realm in
+    AreNames-text (with_space no_names space) login (AreNames-space no_names space AreNames-none refl refl)
+
+-- the partitions of a legal and fresh run are apart
+apart_in : (run : Run) → AreNames run.names → IsLegal run.roster run.names (history run) → IsTrue (fresh run.names (history run)) → (partition : List ℕ) → IsApart run partition
+apart_in run named legal drawn partition =
+    (alone_legal run.roster run.names partition named (history run) legal, alone_fresh run.roster run.names named partition (history run) legal drawn)
+
 -- the run of the first path
 pub served : (asked : Session) (seed : List ℕ) (request : Request) (challenge : Reply) (realm : List ℕ) (login : Login) (last : Reply)
     → asked.roster ≡ lone_roster request → IsPlain request
@@ -72,6 +115,9 @@ served asked seed request challenge realm login last lone plain first second giv
   same_seed = refl;
   legal = legal_run seed request challenge realm login last plain;
   drawn_once = refl;
+  named = named_run request realm login;
+  few = record { spaces = omega arith; terms = omega arith; nonces = omega arith; texts = omega arith };
+  apart = apart_in (first_run seed request challenge realm login last) (named_run request realm login) (legal_run seed request challenge realm login last plain) refl;
   met = refl;
   once = once_run seed request challenge realm login last;
   whole = ap (λ roster. length roster.requests) (sym lone);
@@ -79,6 +125,9 @@ served asked seed request challenge realm login last lone plain first second giv
       subst (λ k. IsTraceIn (first_run seed request challenge realm login last) k) e (trace_run seed request challenge realm login last plain first.challenges first.reads second.is_last);
   heard = λ r low high. let e : 1 ≡ r = omega (arith, low, high) in
       subst (λ k. IsHeardIn asked.links (first_run seed request challenge realm login last) k) e (heard_run seed request challenge realm login last asked.links first.shown second.shown);
+  fit = λ r low high. let e : 1 ≡ r = omega (arith, low, high) in
+      subst (λ k. IsTrue (list_all has_fit_values (trace (first_run seed request challenge realm login last) k))) e
+      (fit_run seed request challenge realm login last (fit_shown request.method _ challenge first.shown) (fit_shown request.method _ last second.shown));
   answered = answered_run seed request challenge realm login last (answer_in asked.answers) given;
 }
 
@@ -89,11 +138,15 @@ served_nothing asked seed none = record {
   same_seed = refl;
   legal = tt;
   drawn_once = refl;
+  named = AreNames-none;
+  few = record { spaces = omega arith; terms = omega arith; nonces = omega arith; texts = omega arith };
+  apart = apart_in (empty_run seed asked) AreNames-none tt refl;
   met = refl;
   once = λ caller. refl;
   whole = ap length (sym none);
   traces = λ r low high. absurd (omega (arith, low, high));
   heard = λ r low high. absurd (omega (arith, low, high));
+  fit = λ r low high. absurd (omega (arith, low, high));
   answered = tt;
 }
 

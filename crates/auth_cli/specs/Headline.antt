@@ -1,19 +1,25 @@
 -- What a command's text tells of the session that was read.
-use Rattle.std.specs.Prelude.{ℕ, ◌≡◌, ◌≤◌, IsTrue, List, length, reverse, Option, Some, Ok}
+use Rattle.std.specs.Prelude.{ℕ, ◌≡◌, true, Bool, ◌≤◌, IsTrue, List, length, reverse, Option, Some, Ok}
+use Rattle.std.specs.List.{list_all}
 use Rattle.spaces.specs.declared.roster.Request.{Request}
 use Rattle.spaces.specs.Sites.{numbered}
+use Rattle.auth_events.specs.Tables.{AreNames, AreFew}
 use Rattle.auth_events.specs.Book.{IsLegal}
 use Rattle.auth_events.specs.Fresh.{fresh}
 use Rattle.link_trait.specs.declared.links.LinkName.{LinkName}
-use Rattle.link_trait.specs.Links.{stream_in}
+use Rattle.link_trait.specs.Links.{Stream, stream_in}
 use Rattle.link_trait.specs.Prompts.{answer_in}
 use Rattle.session_text.specs.declared.session.Session.{Session}
 use Rattle.session_text.specs.Sessions.{session}
 use Rattle.session_text.specs.Counts.{counts_line}
+use Rattle.wire_head.specs.FinalHeads.{values_fit}
+use Rattle.auth_runs.specs.declared.event.Event.{Event}
+use Rattle.auth_runs.specs.declared.event.Event.TheVariants.{Replied}
 use Rattle.auth_runs.specs.Runs.{Run, history, trace, AreOnce, Each, are_names_met}
+use Rattle.isolation.specs.Partitions.{alone_in}
 use Rattle.auth_controller.specs.Settings.{setting_of}
 use Rattle.auth_controller.specs.Traces.{IsTrace}
-use Rattle.auth_controller.specs.Heard.{Stream, ended, IsHeard, IsAnswered}
+use Rattle.auth_controller.specs.Heard.{ended, IsHeard, IsAnswered}
 use Rattle.auth_report.specs.Report.{text}
 use Rattle.auth_cli.specs.declared.words.Command.{Command}
 use Rattle.auth_cli.specs.declared.words.Command.TheVariants.{Check, Alone}
@@ -35,6 +41,17 @@ IsHeardIn links run r =
     (request : Request) × (numbered run.roster.requests r ≡ Some request)
     × IsHeard (recorded links) request.method r (reverse (trace run r))
 
+-- a challenge that is replied has no infos, and another reply has no challenges
+abbrev pub has_fit_values : Event → Bool
+has_fit_values (Replied link reply) = values_fit reply
+has_fit_values event = true
+
+-- what a partition has alone of the run's history is legal and fresh by itself, but for the numbers of prompts
+abbrev pub IsApart : Run → List ℕ → Type 0
+IsApart run partition =
+    let own = alone_in run.roster partition (history run) in
+    IsLegal run.roster run.names own × IsTrue (fresh run.names own)
+
 -- one run of the session by that many callers
 pub record IsRunOf (asked : Session) (callers : ℕ) (seed : List ℕ) (run : Run) : Type 0 where
   -- it is this session's, with the seed that was handed in
@@ -43,6 +60,11 @@ pub record IsRunOf (asked : Session) (callers : ℕ) (seed : List ℕ) (run : Ru
   -- calls and draws form one legal history; no nonce and count are drawn twice
   pub legal : IsLegal run.roster run.names (history run)
   pub drawn_once : IsTrue (fresh run.names (history run))
+  -- a number names one thing and a thing has one number, within the limits
+  pub named : AreNames run.names
+  pub few : AreFew (length run.roster.requests) run.names
+  -- no partition learns of another
+  pub apart : (partition : List ℕ) → IsApart run partition
   -- each name stands for something that a call names, by first occurrence
   pub met : IsTrue (are_names_met run.names run.journal)
   -- each call stands once, in its caller's order
@@ -52,6 +74,8 @@ pub record IsRunOf (asked : Session) (callers : ℕ) (seed : List ℕ) (run : Ru
   pub traces : (r : ℕ) → 1 ≤ r → r ≤ length run.traces → IsTraceIn run r
   -- replies are those of the recorded links
   pub heard : (r : ℕ) → 1 ≤ r → r ≤ length run.traces → IsHeardIn asked.links run r
+  -- a challenge among them has no infos, and another reply has no challenges
+  pub fit : (r : ℕ) → 1 ≤ r → r ≤ length run.traces → IsTrue (list_all has_fit_values (trace run r))
   -- each prompt has the session's answer, which its waiters take
   pub answered : Each (λ entry. IsAnswered (answer_in asked.answers) run.names run.journal entry.call) run.journal
 

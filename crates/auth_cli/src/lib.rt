@@ -6,8 +6,6 @@ mod serve;
 mod standard;
 mod status;
 mod streams;
-#[cfg(test)]
-mod tests;
 mod top;
 mod words;
 

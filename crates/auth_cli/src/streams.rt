@@ -6,7 +6,7 @@ ghost use Rattle.link_trait.specs.Faults.{Rose};
 ghost use Rattle.auth_cli.specs.Whole.{WasRead, WasReadPast, WasWritten, WasWrittenInPart};
 
 use auth_controller::{add_front, zeros};
-use auth_text::{Bytes, NoMemory};
+use auth_text::{Bytes, NoMemory, rest_of};
 use link_trait::{Got, Sink, Source, Took};
 use std::alloc::{AllocError, Global};
 
@@ -76,7 +76,7 @@ fn behind(text: &[u8], at: usize) -> &[u8]
     ensures rest { result.now ≡ drop at text.now }
     ensures len { length result.now + at ≡ length text.now }
 {
-    &text[at..]
+    rest_of(text, at)
 }
 
 /// Writes a whole text. A sink that fails holds the text's front.

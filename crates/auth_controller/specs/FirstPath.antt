@@ -26,9 +26,10 @@ use Rattle.link_trait.specs.declared.links.LinkName.{LinkName}
 use Rattle.link_trait.specs.declared.dialer.Dial.{Dial}
 use Rattle.link_trait.specs.declared.dialer.Traffic.{Traffic}
 use Rattle.link_trait.specs.declared.prompts.Ask.{Ask}
-use Rattle.auth_controller.specs.Links.{Written, stream_of, sent_of}
+use Rattle.auth_controller.specs.Links.{Written, HasWritten, stream_of}
 use Rattle.auth_controller.specs.Challenges.{first_realm}
-use Rattle.auth_controller.specs.Heard.{Stream, reply_in, ended as ended_stream}
+use Rattle.link_trait.specs.Links.{Stream}
+use Rattle.auth_controller.specs.Heard.{reply_in, ended as ended_stream}
 use Rattle.auth_controller.specs.Traces.{credentials, is_challenge}
 
 -- it goes to its server, and its URL has no identity
@@ -145,9 +146,9 @@ both_written request login =
     record { link = nth_link 1; bytes = first_head request } ∷ record { link = nth_link 2; bytes = second_head request login } ∷ []
 
 -- the request was served: its events, and what book, dialer and prompter tell
-pub record IsServed (request : Request) (challenge : Reply) (realm : List ℕ) (login : Login) (last : Reply) (events : List Event) (told : List Told) (dials : Option (List Dial)) (traffic : Option (List Traffic)) (asks : Option (List Ask)) : Type 0 where
+pub record IsServed (request : Request) (challenge : Reply) (realm : List ℕ) (login : Login) (last : Reply) (events : List Event) (told : List Told) (dials : Option (List Dial)) (traffic_old traffic_new : Option (List Traffic)) (asks : Option (List Ask)) : Type 0 where
   pub same_events : events ≡ all_events request challenge login last
   pub same_told : told ≡ ended (server_space request realm) login
   pub same_dials : dials ≡ Some (both_dialed request)
-  pub same_written : sent_of traffic ≡ both_written request login
+  pub same_written : HasWritten (both_written request login) traffic_old traffic_new
   pub same_asks : asks ≡ Some (record { space = server_space request realm; ordinal = 1 } ∷ [])

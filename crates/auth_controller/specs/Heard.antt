@@ -11,6 +11,7 @@ use Rattle.auth_events.specs.declared.journal.BookReply.TheVariants.{Lead}
 use Rattle.auth_events.specs.declared.journal.Entry.{Entry}
 use Rattle.auth_events.specs.Tables.{Tables}
 use Rattle.link_trait.specs.declared.links.LinkName.{LinkName}
+use Rattle.link_trait.specs.Links.{Stream}
 use Rattle.wire_head.specs.Replies.{reply}
 use Rattle.wire_head.specs.declared.reply.Reply.{Reply}
 use Rattle.wire_head.specs.declared.reply.WireFault.{WireFault}
@@ -18,11 +19,6 @@ use Rattle.auth_runs.specs.declared.event.Event.{Event}
 use Rattle.auth_runs.specs.declared.event.Event.TheVariants.{Replied, Broken}
 
 -- REPLIES
-
--- what a peer sends on a link, and whether it has ended
-pub record Stream : Type 0 where
-  pub bytes : List ℕ
-  pub ended : Bool
 
 -- the whole of what a peer sent
 abbrev pub ended : List ℕ → Stream

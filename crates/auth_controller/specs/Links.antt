@@ -2,9 +2,11 @@
 use Rattle.std.specs.Prelude.{ℕ, ◌≡◌, ◌≤◌, false, List, [], length, take, filter_map, Some, None, unwrap_or, option_map}
 use Rattle.std.specs.declared.option.Option.{Option}
 use Rattle.link_trait.specs.declared.links.LinkName.{LinkName}
+use Rattle.link_trait.specs.declared.dialer.Dial.{Dial}
 use Rattle.link_trait.specs.declared.dialer.Traffic.{Traffic}
 use Rattle.link_trait.specs.declared.dialer.Traffic.TheVariants.{Sent, Received, Ended}
-use Rattle.link_trait.specs.Links.{heard_on, same_link}
+use Rattle.link_trait.specs.Links.{heard_on, has_dial}
+use Rattle.link_trait.specs.Told.{grown}
 
 -- the bytes that were written to a link
 pub record Written : Type 0 where
@@ -24,22 +26,21 @@ sent traffic = filter_map written traffic
 abbrev pub stream_of : Option (LinkName → List ℕ) → LinkName → List ℕ
 stream_of streams name = unwrap_or (option_map (λ stream. stream name) streams) []
 
--- the bytes that were read on a link, where they are told
-abbrev pub heard_of : Option (List Traffic) → LinkName → List ℕ
-heard_of traffic name = heard_on name (unwrap_or traffic [])
+-- the traffic grew, and by these bytes of what was written
+pub record HasWritten (bytes : List Written) (old new : Option (List Traffic)) : Type 0 where
+  pub more : List Traffic
+  pub grew : new ≡ grown old more
+  pub wrote : sent more ≡ bytes
 
--- what was written, where it is told
-abbrev pub sent_of : Option (List Traffic) → List Written
-sent_of traffic = sent (unwrap_or traffic [])
+-- where it is told, these bytes were read on the link
+abbrev pub HasHeard : LinkName → Option (List Traffic) → List ℕ → Type 0
+HasHeard name None bytes = Unit {0}
+HasHeard name (Some traffic) bytes = heard_on name traffic ≡ bytes
 
--- nothing more was read on any other link
-abbrev pub AreUnheard : LinkName → Option (List Traffic) → Option (List Traffic) → Type 0
-AreUnheard name old new = (other : LinkName) → same_link name other ≡ false → heard_of new other ≡ heard_of old other
-
--- nothing but reads of that link came behind what was told
-pub record OnlyReads (name : LinkName) (old new : Option (List Traffic)) : Type 0 where
-  pub same_sent : sent_of new ≡ sent_of old
-  pub others : AreUnheard name old new
+-- the dials are told, and the link isn't among them
+abbrev pub IsNew : LinkName → Option (List Dial) → Type 0
+IsNew name None = ⊥
+IsNew name (Some dials) = has_dial name dials ≡ false
 
 -- the bytes are a front of the stream
 pub record IsFront (bytes stream : List ℕ) : Type 0 where

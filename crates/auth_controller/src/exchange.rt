@@ -1,10 +1,10 @@
 //! One exchange over a link of its own: dial, write the head, read what the peer sends to its end,
 //! close.
 
-ghost use Rattle.std.specs.Prelude.{◌≡◌, ◌≤◌, ◌<◌, ◌+◌, ◌++◌, ◌∷◌, [], IsTrue, is_some, true, false, length, IfOk, OnOk, OnErr};
+ghost use Rattle.std.specs.Prelude.{◌≡◌, ◌<◌, ◌∷◌, [], IsTrue, is_some, true, false, length, IfOk, OnOk};
 ghost use Rattle.link_trait.specs.Told.{grown};
 ghost use Rattle.link_trait.specs.Links.{has_link, IsUndialed};
-ghost use Rattle.auth_controller.specs.Links.{stream_of, heard_of, sent_of, AreUnheard, OnlyReads, IsFront};
+ghost use Rattle.auth_controller.specs.Links.{stream_of, HasHeard, IsFront, IsNew, HasWritten};
 
 use crate::pieces::{add_front, zeros};
 use auth_text::{Bytes, NoMemory};
@@ -25,15 +25,13 @@ fn read_piece<D: Dialer>(
     requires room { 0 < length buf.old }
     requires quiet { D.quiet dialer.old }
     requires streams { IsTrue (is_some (D.streams dialer.old)) }
-    requires told { IsTrue (is_some (D.traffic dialer.old)) }
-    requires heard { heard_of (D.traffic dialer.old) name ≡ text.old }
+    requires heard { HasHeard name (D.traffic dialer.old) text.old }
     requires front { IsFront text.old (stream_of (D.streams dialer.old) name) }
     ensures more { IfOk result (λ more. more ≡ true → length text.old < length text.new) }
     ensures end { IfOk result (λ more. more ≡ false → text.new ≡ stream_of (D.streams dialer.old) name) }
     ensures front { OnOk result (IsFront text.new (stream_of (D.streams dialer.old) name)) }
-    ensures heard { OnOk result (heard_of (D.traffic dialer.new) name ≡ text.new) }
-    ensures told { IsTrue (is_some (D.traffic dialer.new)) }
-    ensures reads { OnlyReads name (D.traffic dialer.old) (D.traffic dialer.new) }
+    ensures heard { OnOk result (HasHeard name (D.traffic dialer.new) text.new) }
+    ensures wrote { HasWritten [] (D.traffic dialer.old) (D.traffic dialer.new) }
     ensures dials { D.dials dialer.new ≡ D.dials dialer.old }
     ensures opened { D.opened dialer.new ≡ D.opened dialer.old }
     ensures streams { D.streams dialer.new ≡ D.streams dialer.old }
@@ -52,15 +50,14 @@ fn read_piece<D: Dialer>(
 }
 
 /// Reads what the peer of a link sends, to its end.
+#[tactic(auto, using(crate::proofs::LinkLemmas::wrote_nothing, crate::proofs::LinkLemmas::wrote_reads))]
 fn read_stream<D: Dialer>(alloc: Global, dialer: &mut D, name: LinkName) -> Result<Bytes, NoMemory>
     requires open { has_link name (D.opened dialer.old) ≡ true }
     requires quiet { D.quiet dialer.old }
     requires streams { IsTrue (is_some (D.streams dialer.old)) }
-    requires told { IsTrue (is_some (D.traffic dialer.old)) }
-    requires unheard { heard_of (D.traffic dialer.old) name ≡ [] }
+    requires unheard { HasHeard name (D.traffic dialer.old) [] }
     ensures text { IfOk result (λ text. text ≡ stream_of (D.streams dialer.old) name) }
-    ensures told { OnOk result (IsTrue (is_some (D.traffic dialer.new))) }
-    ensures reads { OnOk result (OnlyReads name (D.traffic dialer.old) (D.traffic dialer.new)) }
+    ensures wrote { OnOk result (HasWritten [] (D.traffic dialer.old) (D.traffic dialer.new)) }
     ensures dials { OnOk result (D.dials dialer.new ≡ D.dials dialer.old) }
     ensures opened { OnOk result (D.opened dialer.new ≡ D.opened dialer.old) }
     ensures streams { OnOk result (D.streams dialer.new ≡ D.streams dialer.old) }
@@ -111,7 +108,7 @@ fn write_head<D: Dialer>(dialer: &mut D, name: LinkName, head: &[u8]) -> Result<
 
 /// Sends a head over a link of its own and reads all that comes back. What the dialer tells grows by
 /// this dial and this head, and the link is closed.
-#[tactic(auto, using(crate::proofs::LinkLemmas::same_link_self, crate::proofs::LinkLemmas::sends_known, crate::proofs::LinkLemmas::sends_heard, crate::proofs::LinkLemmas::sends_more))]
+#[tactic(auto, using(crate::proofs::LinkLemmas::same_link_self, crate::proofs::LinkLemmas::new_undialed, crate::proofs::LinkLemmas::wrote_exchange))]
 pub(crate) fn exchange<D: Dialer>(
     alloc: Global,
     dialer: &mut D,
@@ -120,16 +117,12 @@ pub(crate) fn exchange<D: Dialer>(
     head: &[u8],
 ) -> Result<Bytes, NoMemory>
     requires none_open { D.opened dialer.old ≡ [] }
-    requires undialed { IsUndialed name (D.dials dialer.old) }
+    requires undialed { IsNew name (D.dials dialer.old) }
     requires quiet { D.quiet dialer.old }
     requires streams { IsTrue (is_some (D.streams dialer.old)) }
-    requires told { IsTrue (is_some (D.traffic dialer.old)) }
-    requires unheard { heard_of (D.traffic dialer.old) name ≡ [] }
     ensures text { IfOk result (λ text. text ≡ stream_of (D.streams dialer.old) name) }
     ensures dials { OnOk result (D.dials dialer.new ≡ grown (D.dials dialer.old) (record { link = name; to = to.now } ∷ [])) }
-    ensures sent { OnOk result (sent_of (D.traffic dialer.new) ≡ sent_of (D.traffic dialer.old) ++ record { link = name; bytes = head.now } ∷ []) }
-    ensures others { OnOk result (AreUnheard name (D.traffic dialer.old) (D.traffic dialer.new)) }
-    ensures told { OnOk result (IsTrue (is_some (D.traffic dialer.new))) }
+    ensures wrote { OnOk result (HasWritten (record { link = name; bytes = head.now } ∷ []) (D.traffic dialer.old) (D.traffic dialer.new)) }
     ensures closed { OnOk result (D.opened dialer.new ≡ []) }
     ensures streams { OnOk result (D.streams dialer.new ≡ D.streams dialer.old) }
     ensures quiet { OnOk result (D.quiet dialer.new) }

@@ -12,8 +12,8 @@ ghost use Rattle.spaces.specs.declared.site.Target.TheVariants.{Server};
 ghost use Rattle.auth_controller.specs.Traces.{credentials};
 ghost use Rattle.auth_controller.specs.Heard.{reply_in};
 ghost use Rattle.wire_head.specs.declared.reply.Reply.{Reply};
-ghost use Rattle.auth_controller.specs.Links.{heard_of, sent_of};
-ghost use Rattle.auth_controller.specs.FirstPath.{IsPlain, IsExpected, IsChallenge, IsLast, IsServed, lone_roster, server_space, first_gift, preempted, answered, ended, first_head, second_head, nth_link, link_in, answer_of, both_dialed, both_written};
+ghost use Rattle.auth_controller.specs.Links.{HasWritten};
+ghost use Rattle.auth_controller.specs.FirstPath.{IsPlain, IsExpected, IsChallenge, IsLast, IsServed, lone_roster, server_space, first_gift, preempted, answered, ended, first_head, second_head, nth_link, link_in, answer_of, both_dialed};
 
 use crate::book_calls;
 use crate::exchange::exchange;
@@ -208,7 +208,6 @@ fn meet<D: Dialer>(
 ) -> Result<Bytes, NoMemory>
     requires none_open { D.opened dialer.old ≡ [] }
     requires no_dials { D.dials dialer.old ≡ Some [] }
-    requires no_traffic { D.traffic dialer.old ≡ Some [] }
     requires quiet { D.quiet dialer.old }
     requires streams { IsTrue (is_some (D.streams dialer.old)) }
     requires first { (challenge : Reply) × (realm : List ℕ) × IsChallenge request.now.method (link_in (D.streams dialer.old) 1) challenge realm }
@@ -216,9 +215,7 @@ fn meet<D: Dialer>(
     ensures events { OnOk result ((challenge : Reply) (realm : List ℕ) → IsChallenge request.now.method (link_in (D.streams dialer.old) 1) challenge realm
         → events.new ≡ events.old ++ Event.Dialed 1 ∷ Event.Headed 1 (first_head request.now) ∷ Event.Replied 1 challenge ∷ []) }
     ensures dials { OnOk result (D.dials dialer.new ≡ Some (record { link = nth_link 1; to = request.now.place.origin } ∷ [])) }
-    ensures written { OnOk result (sent_of (D.traffic dialer.new) ≡ record { link = nth_link 1; bytes = first_head request.now } ∷ []) }
-    ensures unheard { OnOk result (heard_of (D.traffic dialer.new) (nth_link 2) ≡ []) }
-    ensures told { OnOk result (IsTrue (is_some (D.traffic dialer.new))) }
+    ensures wrote { OnOk result (HasWritten (record { link = nth_link 1; bytes = first_head request.now } ∷ []) (D.traffic dialer.old) (D.traffic dialer.new)) }
     ensures closed { OnOk result (D.opened dialer.new ≡ []) }
     ensures streams { OnOk result (D.streams dialer.new ≡ D.streams dialer.old) }
     ensures quiet { OnOk result (D.quiet dialer.new) }
@@ -242,9 +239,6 @@ fn send_again<D: Dialer>(
 ) -> Result<u16, NoMemory>
     requires none_open { D.opened dialer.old ≡ [] }
     requires one_dial { D.dials dialer.old ≡ Some (record { link = nth_link 1; to = request.now.place.origin } ∷ []) }
-    requires one_written { sent_of (D.traffic dialer.old) ≡ record { link = nth_link 1; bytes = first_head request.now } ∷ [] }
-    requires unheard { heard_of (D.traffic dialer.old) (nth_link 2) ≡ [] }
-    requires told { IsTrue (is_some (D.traffic dialer.old)) }
     requires quiet { D.quiet dialer.old }
     requires streams { IsTrue (is_some (D.streams dialer.old)) }
     requires second { IsTrue (is_some (reply_in request.now.method (link_in (D.streams dialer.old) 2))) }
@@ -252,7 +246,7 @@ fn send_again<D: Dialer>(
     ensures events { OnOk result ((last : Reply) → reply_in request.now.method (link_in (D.streams dialer.old) 2) ≡ Some last
         → events.new ≡ events.old ++ Event.Dialed 2 ∷ Event.Headed 2 (second_head request.now identity.now) ∷ Event.Replied 2 last ∷ []) }
     ensures dials { OnOk result (D.dials dialer.new ≡ Some (both_dialed request.now)) }
-    ensures written { OnOk result (sent_of (D.traffic dialer.new) ≡ both_written request.now identity.now) }
+    ensures wrote { OnOk result (HasWritten (record { link = nth_link 2; bytes = second_head request.now identity.now } ∷ []) (D.traffic dialer.old) (D.traffic dialer.new)) }
     ensures closed { OnOk result (D.opened dialer.new ≡ []) }
 {
     let head = second_head(alloc, request, identity)?;
@@ -282,7 +276,6 @@ pub fn serve_challenge<B: Controller, D: Dialer, P: Prompter>(
     requires no_calls { B.told book.old ≡ [] }
     requires none_open { D.opened dialer.old ≡ [] }
     requires no_dials { D.dials dialer.old ≡ Some [] }
-    requires no_traffic { D.traffic dialer.old ≡ Some [] }
     requires streams { IsTrue (is_some (D.streams dialer.old)) }
     requires calm { D.quiet dialer.old × P.quiet prompter.old }
     requires no_asks { P.told prompter.old ≡ Some [] }
@@ -291,7 +284,7 @@ pub fn serve_challenge<B: Controller, D: Dialer, P: Prompter>(
         → IsChallenge request.now.method (link_in (D.streams dialer.old) 1) challenge realm
         → IsLast request.now.method (link_in (D.streams dialer.old) 2) last
         → answer_of (P.answers prompter.old) (server_space request.now realm) 1 ≡ Some login
-        → IsServed request.now challenge realm login last trace (B.told book.new) (D.dials dialer.new) (D.traffic dialer.new) (P.told prompter.new)) }
+        → IsServed request.now challenge realm login last trace (B.told book.new) (D.dials dialer.new) (D.traffic dialer.old) (D.traffic dialer.new) (P.told prompter.new)) }
     ensures closed { OnOk result (D.opened dialer.new ≡ []) }
     ensures roster { OnOk result (B.roster book.new ≡ lone_roster request.now) }
 {

@@ -5,13 +5,13 @@ use Rattle.std.proofs.lemmas.List.Elements.{All-nil, All-push, All-weaker}
 use Rattle.std.proofs.Props.{props}
 use Rattle.std.proofs.lemmas.Bool.{false≢true}
 use Rattle.auth_text.specs.Login.{Login}
-use Rattle.spaces.specs.ProtectionSpaces.{ProtectionSpace}
+use Rattle.spaces.specs.ProtectionSpaces.{ProtectionSpace, has_realm}
 use Rattle.spaces.specs.declared.roster.Roster.{Roster}
 use Rattle.spaces.specs.Sites.{numbered}
 use Rattle.auth_events.specs.declared.journal.Entry.{Entry}
 use Rattle.auth_events.specs.declared.names.TermsName.{TermsName}
 use Rattle.auth_events.specs.declared.told.Told.{Told}
-use Rattle.auth_events.specs.declared.told.Told.TheVariants.{SpaceNamed, TermsNamed, TextNamed}
+use Rattle.auth_events.specs.declared.told.Told.TheVariants.{Made, SpaceNamed, TermsNamed, TextNamed}
 use Rattle.auth_events.specs.declared.told.NewName.{NewName}
 use Rattle.auth_events.specs.declared.told.NameKind.{NameKind}
 use Rattle.auth_events.specs.declared.told.NameKind.TheVariants.{Space as OfSpace, Terms as OfTerms, Text as OfText}
@@ -22,10 +22,10 @@ use Rattle.auth_events.specs.Told.{IsNamed, is_pending, name_told, with_told, to
 use Rattle.auth_events.specs.Ledgers.{IsKept, told_of}
 use Rattle.auth_events.proofs.Numbers.{numbered-last}
 use Rattle.auth_events.proofs.RoomLemmas.{IsWithinRoom-push}
-use Rattle.auth_events.proofs.Legal.{IsLegal-push, room_for}
+use Rattle.auth_events.proofs.Legal.{IsLegal-journal, IsLegal-push, room_for}
 use Rattle.auth_events.proofs.MoreNames.{Extends, extends_by_space, extends_by_terms, extends_by_text, legal-more}
 use Rattle.auth_events.proofs.Naming.{AreNames-none, AreNames-space, AreNames-terms, AreNames-text, length-with_nonce}
-use Rattle.auth_events.proofs.Weave.{named-more, weave_named, told_named, told_entry}
+use Rattle.auth_events.proofs.Weave.{journal-weave, named-more, throughout_more, throughout_none, weave_after, weave_named, told_named, told_entry}
 
 pub HasRoomFor-prop : (n : ℕ) (entries : List Entry) (entry : Entry) → IsProp (HasRoomFor (record { requests = n; entries = entries }) entry)
 HasRoomFor-prop n entries entry = Prim.hlevel props
@@ -37,6 +37,7 @@ IsKept-new roster = record {
   before = All-nil _;
   named = All-nil _;
   told = refl;
+  throughout = throughout_none roster;
   are_names = AreNames-none;
   within = record { spaces = omega arith; terms = omega arith; nonces = omega arith; texts = omega arith };
 }
@@ -54,6 +55,9 @@ module _ (roster : Roster) (names : Tables) (made : List NewName) (entries : Lis
         before = All-weaker (λ name. name.before ≤ length entries) (λ name. name.before ≤ length (entries ++ entry ∷ [])) (λ name le. omega (arith, length-append entries (entry ∷ []))) made kept.before;
         named = kept.named;
         told = told_entry names made entries entry kept.before kept.told;
+        throughout = throughout_more roster (told_of names made entries) (told_of names made (entries ++ entry ∷ [])) (Made entry) names (entries ++ entry ∷ [])
+            (weave_after names made entries entry false kept.before) (told_entry names made entries entry kept.before kept.told) (journal-weave names made 0 (entries ++ entry ∷ []))
+            (IsLegal-journal roster names (entries ++ entry ∷ []) (IsLegal-push roster names entries entry kept.legal may is room.page.fit)) kept.throughout;
         are_names = kept.are_names;
         within = kept.within;
       }
@@ -65,6 +69,9 @@ module _ (roster : Roster) (names : Tables) (made : List NewName) (entries : Lis
     before = All-push (λ (one : NewName). one.before ≤ length entries) made name kept.before (omega (arith, before));
     named = All-push (IsNamed more) made name (named-more names more ext made kept.named) (ap is_some is);
     told = told_named names more ext made entries name item kept.named before is kept.told with_it;
+    throughout = throughout_more roster (told_of names made entries) (told_of more (made ++ name ∷ []) entries) item more entries
+        (weave_named names more ext made entries name item kept.named before is) (told_named names more ext made entries name item kept.named before is kept.told with_it) (journal-weave more (made ++ name ∷ []) 0 entries)
+        (IsLegal-journal roster more entries (legal-more roster names more ext (length roster.requests) entries kept.pages.pages kept.legal)) kept.throughout;
     are_names = are_names;
     within = within;
   }
@@ -73,11 +80,11 @@ module _ (roster : Roster) (names : Tables) (made : List NewName) (entries : Lis
   few_spaces space (inl few) none = few
   few_spaces space (inr found) none = absurd (false≢true (sym (ap is_some none) ∙ found))
 
-  pub IsKept-space : (caller : ℕ) (space : ProtectionSpace) → MayNameSpace roster names space → space_number names space ≡ None → IsKept roster (with_space names space) (made ++ record { kind = OfSpace; number = length names.spaces + 1; caller = caller; before = length entries } ∷ []) entries
-  IsKept-space caller space may none =
+  pub IsKept-space : (caller : ℕ) (space : ProtectionSpace) → IsTrue (has_realm space.scheme space.realm) → MayNameSpace roster names space → space_number names space ≡ None → IsKept roster (with_space names space) (made ++ record { kind = OfSpace; number = length names.spaces + 1; caller = caller; before = length entries } ∷ []) entries
+  IsKept-space caller space fit may none =
       IsKept-name (with_space names space) (record { kind = OfSpace; number = length names.spaces + 1; caller = caller; before = length entries }) (SpaceNamed caller space)
       (extends_by_space names space) (ap (option_map (λ s. SpaceNamed caller s)) (numbered-last names.spaces space)) refl refl
-      (AreNames-space names space kept.are_names none)
+      (AreNames-space names space kept.are_names fit none)
       (record {
         spaces = omega (arith, length-append names.spaces (space ∷ []), few_spaces space may none);
         terms = kept.within.terms;
@@ -122,11 +129,11 @@ name_of_parts : (kind : NameKind) (n n' caller b b' : ℕ) → n ≡ n' → b �
 name_of_parts kind n n' caller b b' same_n same_b = cc
 
 module _ (roster : Roster) (names : Tables) (made : List NewName) (entries : List Entry) (more : Tables) (more_made : List NewName) (caller number before : ℕ) where
-  pub kept_with_space : (space : ProtectionSpace) → IsKept roster names made entries → MayNameSpace roster names space → space_number names space ≡ None → more ≡ with_space names space → number ≡ length more.spaces → before ≡ length entries → more_made ≡ made ++ record { kind = OfSpace; number = number; caller = caller; before = before } ∷ [] → IsKept roster more more_made entries
-  kept_with_space space kept may none is count place grown =
+  pub kept_with_space : (space : ProtectionSpace) → IsKept roster names made entries → IsTrue (has_realm space.scheme space.realm) → MayNameSpace roster names space → space_number names space ≡ None → more ≡ with_space names space → number ≡ length more.spaces → before ≡ length entries → more_made ≡ made ++ record { kind = OfSpace; number = number; caller = caller; before = before } ∷ [] → IsKept roster more more_made entries
+  kept_with_space space kept fit may none is count place grown =
       let number_is : number ≡ length names.spaces + 1 = count ∙ (ap (λ (t : Tables). length t.spaces) is ∙ length-append names.spaces (space ∷ [])) in
       let grown' = grown ∙ ap (λ name. made ++ name ∷ []) (name_of_parts OfSpace number (length names.spaces + 1) caller before (length entries) number_is place) in
-      subst (λ t. IsKept roster t more_made entries) (sym is) (subst (λ ms. IsKept roster (with_space names space) ms entries) (sym grown') (IsKept-space roster names made entries kept caller space may none))
+      subst (λ t. IsKept roster t more_made entries) (sym is) (subst (λ ms. IsKept roster (with_space names space) ms entries) (sym grown') (IsKept-space roster names made entries kept caller space fit may none))
 
   pub told_with_space : (space : ProtectionSpace) → IsKept roster names made entries → space_number names space ≡ None → more ≡ with_space names space → number ≡ length more.spaces → before ≡ length entries → more_made ≡ made ++ record { kind = OfSpace; number = number; caller = caller; before = before } ∷ [] → told_of more more_made entries ≡ told_space caller names (told_of names made entries) space
   told_with_space space kept none is count place grown =

@@ -22,7 +22,7 @@ use Rattle.auth_events.specs.Past.{current, end, settles, taken_from}
 use Rattle.auth_events.specs.Told.{is_pending}
 use Rattle.auth_events.proofs.Numbers.{and_left, and_right, both, numbered_in}
 use Rattle.auth_events.specs.Book.{Choice, IsLegal, IsLegalPast, allowed, allowed_call, answer, own, draws, is_rival, begins, ends, no_entry, is_open, preempt_answer, ready, select_answer, choice}
-use Rattle.auth_events.specs.Book.Choice.{By_url, By_cache, By_default, By_following, By_leading}
+use Rattle.auth_events.specs.Book.Choice.{ByUrl, ByCache, ByDefault, ByFollowing, ByLeading}
 
 -- an entry more is legal where it was allowed and has its answer
 pub IsLegal-push : (roster : Roster) (names : Tables) (journal : List Entry) (entry : Entry) → IsLegalPast roster names (reverse journal) → IsTrue (allowed roster names (reverse journal) entry.caller entry.request entry.call) → entry.reply ≡ answer roster names (reverse journal) entry.request entry.call → IsTrue (fits entry.call entry.reply) → IsLegalPast roster names (reverse (journal ++ entry ∷ []))
@@ -82,11 +82,11 @@ fits_preempt names past target None = refl
 fits_preempt names past target (Some s) = fits_ready names past s target (current past s)
 
 fits_select : (rival : ℕ → Bool) (past : List Entry) (s t : ℕ) (how : Choice) → IsTrue (fits (Select s t) (select_answer rival past s how))
-fits_select rival past s t By_url = refl
-fits_select rival past s t (By_cache gift) = refl
-fits_select rival past s t By_default = refl
-fits_select rival past s t (By_following p) = refl
-fits_select rival past s t By_leading = refl
+fits_select rival past s t ByUrl = refl
+fits_select rival past s t (ByCache gift) = refl
+fits_select rival past s t ByDefault = refl
+fits_select rival past s t (ByFollowing p) = refl
+fits_select rival past s t ByLeading = refl
 
 fits_if : (call : Call) (b : Bool) (x y : BookReply) → IsTrue (fits call x) → IsTrue (fits call y) → IsTrue (fits call (cond b x y))
 fits_if call true x y fx fy = fx

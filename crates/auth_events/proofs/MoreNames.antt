@@ -1,8 +1,8 @@
 -- A legal journal stays legal when things are named anew.
 use Rattle.std.proofs.Common.{◌≡◌, ℕ, zero, suc, ◌≤◌, Bool, true, false, not, ◌&&◌, ◌||◌, cond, List, [], ◌∷◌, length, refl, ap, sym, subst, ◌∙◌, inl, inr, arith, length-append, Option, Some, None}
-use Rattle.std.specs.Prelude.{All, reverse, IsTrue, ◌==◌, option_map, option_and_then, unwrap_or, is_some, nat_le}
+use Rattle.std.specs.Prelude.{All, reverse, IsTrue, ◌==◌, option_map, option_and_then, unwrap_or, is_some, nat_le, bytes_eq, filter}
 use Rattle.std.specs.List.{list_any}
-use Rattle.std.proofs.lemmas.List.Elements.{All-head, All-tail}
+use Rattle.std.proofs.lemmas.List.Elements.{All-head, All-tail, All-filter}
 use Rattle.spaces.specs.Sites.{numbered, same_origin, same_site}
 use Rattle.spaces.specs.declared.roster.Roster.{Roster}
 use Rattle.spaces.specs.declared.site.Site.{Site}
@@ -13,15 +13,16 @@ use Rattle.auth_events.specs.declared.journal.Gift.{Gift}
 use Rattle.auth_events.specs.declared.journal.Entry.{Entry}
 use Rattle.auth_events.specs.declared.journal.Call.{Call}
 use Rattle.auth_events.specs.declared.journal.Call.TheVariants.{Begin, Preempt, Select, Reject, Renew, Answer, Lose, Take, Note, End, Draw}
-use Rattle.auth_events.specs.declared.journal.BookReply.TheVariants.{Ready}
+use Rattle.auth_events.specs.declared.journal.BookReply.TheVariants.{Ready, Url, Given, Cancelled}
 use Rattle.auth_events.specs.Tables.{Tables, with_space, with_terms, with_text}
 use Rattle.auth_events.specs.Pages.{IsPage}
-use Rattle.auth_events.specs.Past.{current, live, settled, lead, terms, spaces_given}
-use Rattle.auth_events.specs.Book.{IsLegalPast, allowed_call, answer, scheme_is, is_digest, target_of, is_of_site, nonce_of, has_terms, fits_space, holds_nonce, is_left, epoch, epoch_of_terms, terms_selected, dirs, found_in, best_found, by_path, is_allowed_origin, choice, is_site_of, space_named, waits, was_told, is_led_by, select_answer, Found, better, is_basic, is_negotiate, path_of, preempt_answer, ready, is_rival}
+use Rattle.auth_events.specs.Past.{age, current, evicted, greatest_by, live, live_rivals, live_spaces, settled, lead, terms, spaces_given}
+use Rattle.auth_events.specs.Book.{IsLegalPast, allowed_call, answer, scheme_is, is_digest, target_of, is_of_site, nonce_of, has_terms, fits_space, holds_nonce, is_left, epoch, epoch_of_terms, terms_selected, dirs, found_in, best_found, by_path, is_allowed_origin, choice, is_site_of, space_named, waits, was_told, is_led_by, select_answer, Found, better, is_basic, is_negotiate, path_of, preempt_answer, ready, is_rival, is_of_partition, next_gift, space_of_prompt, Choice}
+use Rattle.auth_events.specs.Book.Choice.{ByUrl, ByCache, ByDefault, ByFollowing, ByLeading}
 use Rattle.auth_events.specs.declared.names.TermsName.{TermsName}
 use Rattle.auth_events.proofs.Numbers.{some_of_test, and_left, and_right, both, numbered-append}
 use Rattle.auth_events.proofs.Legal.{All-reverse}
-use Rattle.auth_events.proofs.NamedThings.{one_of, nat_le-more, NamesSpace, select_named, step_of, terms_named, given_named}
+use Rattle.auth_events.proofs.NamedThings.{one_of, nat_le-more, NamesSpace, select_named, step_of, terms_named, given_named, prompt_named}
 use Rattle.auth_text.specs.Login.{Login}
 
 -- every number keeps its meaning
@@ -40,11 +41,16 @@ best_found-same p q P same [] all = refl
 best_found-same p q P same (s ∷ ss) all =
     ap (λ found. better found (best_found p ss)) (same s (All-head P s ss all)) ∙ ap (better (q s)) (best_found-same p q P same ss (All-tail P s ss all))
 
+filter-same : (p q : ℕ → Bool) (P : ℕ → Type 0) → ((s : ℕ) → P s → p s ≡ q s) → (ss : List ℕ) → All P ss → filter p ss ≡ filter q ss
+filter-same p q P same [] all = refl
+filter-same p q P same (s ∷ ss) all =
+    ap (λ b. cond b (s ∷ filter p ss) (filter p ss)) (same s (All-head P s ss all)) ∙ ap (λ rest. cond (q s) (s ∷ rest) rest) (filter-same p q P same ss (All-tail P s ss all))
+
 module _ (roster : Roster) (names more : Tables) (ext : Extends names more) where
-  scheme-same : (test : Scheme → Bool) (s : ℕ) → NamesSpace roster names s → scheme_is names test s ≡ scheme_is more test s
+  pub scheme-same : (test : Scheme → Bool) (s : ℕ) → NamesSpace roster names s → scheme_is names test s ≡ scheme_is more test s
   scheme-same test s named = ap (λ o. unwrap_or (option_map (λ (space : ProtectionSpace). test space.scheme) o) false) (sym (ext.spaces s named))
 
-  target-same : (s : ℕ) → NamesSpace roster names s → target_of names s ≡ target_of more s
+  pub target-same : (s : ℕ) → NamesSpace roster names s → target_of names s ≡ target_of more s
   target-same s named = ap (λ o. unwrap_or (option_map (λ (space : ProtectionSpace). space.site.target) o) Server) (sym (ext.spaces s named))
 
   site-same : (place : Site) (s : ℕ) → NamesSpace roster names s → is_of_site names place s ≡ is_of_site more place s
@@ -59,8 +65,15 @@ module _ (roster : Roster) (names more : Tables) (ext : Extends names more) wher
   nonce-same : (t : ℕ) → IsTrue (is_some (numbered names.terms t)) → nonce_of names t ≡ nonce_of more t
   nonce-same t named = ap (λ o. unwrap_or (option_map (λ (name : TermsName). name.nonce) o) 0) (sym (ext.terms t named))
 
+  -- who competes with whom
+  rival-same : (s other : ℕ) → NamesSpace roster names s → NamesSpace roster names other → is_rival names s other ≡ is_rival more s other
+  rival-same s other named named' =
+      sym
+      (ap (λ o. unwrap_or (option_map (λ (space : ProtectionSpace). is_of_partition more space.site.partition other) o) false) (ext.spaces s named)
+      ∙ ap (λ o. unwrap_or (option_map (λ (space : ProtectionSpace). unwrap_or (option_map (λ (held : ProtectionSpace). bytes_eq held.site.partition space.site.partition) o) false) (numbered names.spaces s)) false) (ext.spaces other named'))
+
   -- directories need the target alone
-  dirs-same : (past : List Entry) (s : ℕ) → NamesSpace roster names s → dirs roster names past s ≡ dirs roster more past s
+  pub dirs-same : (past : List Entry) (s : ℕ) → NamesSpace roster names s → dirs roster names past s ≡ dirs roster more past s
   dirs-same [] s named = refl
   dirs-same (entry ∷ past) s named =
       let target = target-same s named in
@@ -88,7 +101,7 @@ module _ (roster : Roster) (names more : Tables) (ext : Extends names more) wher
         no_terms false zero none = refl
         no_terms b (suc t) none = absurd (omega arith)
 
-    epoch-same : (past : List Entry) → All (IsPage n) past → IsLegalPast roster names past → (nonce : ℕ) → epoch names past nonce ≡ epoch more past nonce
+    pub epoch-same : (past : List Entry) → All (IsPage n) past → IsLegalPast roster names past → (nonce : ℕ) → epoch names past nonce ≡ epoch more past nonce
     epoch-same [] pages legal nonce = refl
     epoch-same (entry ∷ past) pages legal nonce =
         let older = All-tail (IsPage n) entry past pages in
@@ -125,6 +138,20 @@ module _ (roster : Roster) (names more : Tables) (ext : Extends names more) wher
         ap (option_map (λ (found : Found). found.space))
         (best_found-same (found_in roster names past place p) (found_in roster more past place p) (NamesSpace roster names) (found-same past place p) (spaces_given past) (given_named roster names n past pages legal))
 
+    evicted-same : (past : List Entry) → All (IsPage n) past → IsLegalPast roster names past → (s : ℕ) → NamesSpace roster names s → evicted (is_rival names s) past s ≡ evicted (is_rival more s) past s
+    evicted-same past pages legal s named =
+        let given = given_named roster names n past pages legal in
+        let rivals : live_rivals (is_rival names s) past ≡ live_rivals (is_rival more s) past =
+        filter-same (is_rival names s) (is_rival more s) (NamesSpace roster names) (λ other named'. rival-same s other named named') (live_spaces past) (All-filter (live past) (NamesSpace roster names) (spaces_given past) given) in
+        ap (λ rivals. cond (not (live past s) && nat_le 32 (length rivals)) (greatest_by (age past) rivals) 0) rivals
+
+    select-same : (past : List Entry) → All (IsPage n) past → IsLegalPast roster names past → (s : ℕ) → NamesSpace roster names s → (how : Choice) → select_answer (is_rival names s) past s how ≡ select_answer (is_rival more s) past s how
+    select-same past pages legal s named ByUrl = ap (λ gone. Url (next_gift past s) gone) (evicted-same past pages legal s named)
+    select-same past pages legal s named (ByCache gift) = refl
+    select-same past pages legal s named ByDefault = refl
+    select-same past pages legal s named (ByFollowing p) = refl
+    select-same past pages legal s named ByLeading = refl
+
     choice-same : (past : List Entry) (r s : ℕ) → NamesSpace roster names s → choice roster names past r s ≡ choice roster more past r s
     choice-same past r s named =
         let target = target-same s named in
@@ -137,10 +164,13 @@ module _ (roster : Roster) (names more : Tables) (ext : Extends names more) wher
     answer-same past pages legal r (Preempt target) may =
         ap (preempt_answer names past) (path-same past pages legal (path_of roster r target) _) ∙ preempt-same past pages legal _
     answer-same past pages legal r (Select s t) may =
-        ap (select_answer (is_rival names s) past s) (choice-same past r s (select_named roster names past r s t may).space)
+        let named = (select_named roster names past r s t may).space in
+        ap (select_answer (is_rival names s) past s) (choice-same past r s named) ∙ select-same past pages legal s named (choice roster more past r s)
     answer-same past pages legal r (Reject space ordinal) may = refl
     answer-same past pages legal r (Renew gift t) may = refl
-    answer-same past pages legal r (Answer prompt text t) may = refl
+    answer-same past pages legal r (Answer prompt text t) may =
+        let s = space_of_prompt past prompt in
+        ap (λ gone. cond (text == 0) Cancelled (Given (next_gift past s) gone)) (evicted-same past pages legal s (prompt_named roster names n past pages legal r prompt text t may))
     answer-same past pages legal r (Lose prompt loss) may = refl
     answer-same past pages legal r (Take prompt) may = refl
     answer-same past pages legal r (Note gift) may = refl
@@ -158,7 +188,7 @@ module _ (roster : Roster) (names more : Tables) (ext : Extends names more) wher
         at true false same fit = cc
         at false true same fit = cc
 
-    allowed-more : (past : List Entry) (r : ℕ) (call : Call) → IsTrue (allowed_call roster names past r call) → IsTrue (allowed_call roster more past r call)
+    pub allowed-more : (past : List Entry) (r : ℕ) (call : Call) → IsTrue (allowed_call roster names past r call) → IsTrue (allowed_call roster more past r call)
     allowed-more past r Begin may = may
     allowed-more past r (Preempt target) may = may
     allowed-more past r (Select s t) may =

@@ -16,7 +16,7 @@ use Rattle.auth_events.specs.Tables.{Tables}
 use Rattle.auth_events.specs.Pages.{IsPage, fits}
 use Rattle.auth_events.specs.Past.{settled, evicted, first_space, is_lead, lead, prompt_led, terms, terms_in, touches, is_ready, gift_given, spaces_given}
 use Rattle.auth_events.specs.Book.{IsLegalPast, IsStep, allowed_call, answer, scheme_is, is_digest, has_terms, fits_space, terms_selected, space_selected, space_of_prompt, choice, is_site_of, space_named, waits, was_told, is_led_by, select_answer, given_answer, next_gift, Choice, is_rival}
-use Rattle.auth_events.specs.Book.Choice.{By_url, By_cache, By_default, By_following, By_leading}
+use Rattle.auth_events.specs.Book.Choice.{ByUrl, ByCache, ByDefault, ByFollowing, ByLeading}
 use Rattle.std.specs.List.{cons_option}
 use Rattle.auth_events.proofs.Numbers.{some_of_test, and_left, and_right}
 
@@ -76,11 +76,11 @@ given_call (Draw nonce) (Given gift' evicted) g fit given = absurd (false≢true
 given_call (Draw nonce) reply g fit given = cc
 
 select_gives : (rival : ℕ → Bool) (past : List Entry) (s : ℕ) (how : Choice) (g : Gift) → gift_given (select_answer rival past s how) ≡ Some g → g.space ≡ s
-select_gives rival past s By_url g given = let same : next_gift past s ≡ g = cc in ap (λ (h : Gift). h.space) (sym same)
-select_gives rival past s (By_cache gift) g given = cc
-select_gives rival past s By_default g given = cc
-select_gives rival past s (By_following p) g given = cc
-select_gives rival past s By_leading g given = cc
+select_gives rival past s ByUrl g given = let same : next_gift past s ≡ g = cc in ap (λ (h : Gift). h.space) (sym same)
+select_gives rival past s (ByCache gift) g given = cc
+select_gives rival past s ByDefault g given = cc
+select_gives rival past s (ByFollowing p) g given = cc
+select_gives rival past s ByLeading g given = cc
 
 answer_gives : (rival : ℕ → Bool) (past : List Entry) (s x : ℕ) (g : Gift) → gift_given (given_answer rival past s x) ≡ Some g → g.space ≡ s
 answer_gives rival past s x g = at (x == 0)
@@ -147,7 +147,7 @@ module _ (roster : Roster) (names : Tables) where
           subst (λ (e : Entry). IsSelect e.call) same (subst IsSelect (sym sel.2) selected)
 
   -- the space of a prompt that is answered is named
-  prompt_named : (n : ℕ) (past : List Entry) → All (IsPage n) past → IsLegalPast roster names past → (r p x t : ℕ) → IsTrue (allowed_call roster names past r (Answer p x t)) → NamesSpace (space_of_prompt past p)
+  pub prompt_named : (n : ℕ) (past : List Entry) → All (IsPage n) past → IsLegalPast roster names past → (r p x t : ℕ) → IsTrue (allowed_call roster names past r (Answer p x t)) → NamesSpace (space_of_prompt past p)
   prompt_named n past pages legal r p x t may =
       let led = and_left (is_led_by past r p) (not (settled past p)) (and_left _ (nat_le x (length names.texts)) (and_left (is_led_by past r p && not (settled past p) && nat_le x (length names.texts)) (unwrap_or (option_map (λ entry. terms_selected entry.call == t) (lead past p)) false) may)) in
       by_lead (lead past p) refl led

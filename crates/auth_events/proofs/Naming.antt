@@ -9,7 +9,7 @@ use Rattle.auth_text.specs.Login.{Login}
 use Rattle.spaces.specs.declared.site.Site.{Site}
 use Rattle.spaces.specs.declared.terms.Terms.{Terms}
 use Rattle.spaces.specs.declared.space.Scheme.TheVariants.{Digest}
-use Rattle.spaces.specs.ProtectionSpaces.{ProtectionSpace}
+use Rattle.spaces.specs.ProtectionSpaces.{ProtectionSpace, has_realm}
 use Rattle.spaces.specs.DigestTerms.{same_terms}
 use Rattle.spaces.specs.Sites.{numbered, same_scheme, same_site, same_space}
 use Rattle.auth_events.specs.declared.names.TermsName.{TermsName}
@@ -27,6 +27,7 @@ AreNames-none = record {
   nonces = once_nil;
   rising = refl;
   used = refl;
+  realms = λ space i at. absurd (none_named i space at);
 }
 
 -- a space that has no number isn't named
@@ -47,14 +48,18 @@ home-same names space name at =
       nonce = at.nonce ∙ sym (ap (option_map (λ (s : ProtectionSpace). record { site = s.site; text = name.terms.nonce })) same);
     }
 
-pub AreNames-space : (names : Tables) (space : ProtectionSpace) → AreNames names → space_number names space ≡ None → AreNames (with_space names space)
-AreNames-space names space kept none = record {
+pub AreNames-space : (names : Tables) (space : ProtectionSpace) → AreNames names → IsTrue (has_realm space.scheme space.realm) → space_number names space ≡ None → AreNames (with_space names space)
+AreNames-space names space kept fit none = record {
   spaces = once-push names.spaces space kept.spaces (unnamed_space names space none);
   terms = kept.terms;
   home = λ name i at. home-same names space name (kept.home name i at);
   nonces = kept.nonces;
   rising = kept.rising;
   used = kept.used;
+  realms = λ other i at. elim (numbered-push names.spaces space other i at) [
+    | inl old ↦ kept.realms other i old
+    | inr new ↦ subst (λ (s : ProtectionSpace). IsTrue (has_realm s.scheme s.realm)) new.1 fit
+  ];
 }
 
 pub AreNames-text : (names : Tables) (text : Login) → AreNames names → AreNames (with_text names text)
@@ -65,6 +70,7 @@ AreNames-text names text kept = record {
   nonces = kept.nonces;
   rising = kept.rising;
   used = kept.used;
+  realms = kept.realms;
 }
 
 nonce_of_parts : (s s' : Site) (t t' : List ℕ) → s ≡ s' → t ≡ t' → ◌≡◌ {A = NonceName} (record { site = s; text = t }) (record { site = s'; text = t' })
@@ -190,6 +196,7 @@ module _ (names : Tables) (name : TermsName) (kept : AreNames names) (home : IsT
     nonces = subst (λ ns. IsNumberedOnce ns) (sym known.same) kept.nonces;
     rising = subst (λ ns. IsTrue (is_rising ns)) (sym (nonce_numbers-push names.terms name)) (rising-push name.nonce (nonce_numbers names.terms) (length names.nonces) kept.used known.range.0 (let high = known.range.1 in omega arith) kept.rising);
     used = ap greatest (nonce_numbers-push names.terms name) ∙ (larger-right name.nonce (greatest (nonce_numbers names.terms)) (let high = known.range.1 in let used = kept.used in omega arith) ∙ (kept.used ∙ sym (ap length known.same)));
+    realms = kept.realms;
   }
 
   with_new : (nonce : NonceName) → nonce_named names name ≡ Some nonce → IsNew names name nonce → AreNames (with_terms names name)
@@ -209,6 +216,7 @@ module _ (names : Tables) (name : TermsName) (kept : AreNames names) (home : IsT
         ap greatest (nonce_numbers-push names.terms name)
         ∙ (larger-left name.nonce (greatest (nonce_numbers names.terms)) (let next = new_nonce.next in let used = kept.used in omega arith)
         ∙ (new_nonce.next ∙ sym (ap length new_nonce.more ∙ length-append names.nonces (nonce ∷ []))));
+    realms = kept.realms;
   }
 
   pub AreNames-terms : name.nonce ≡ nonce_for names name.space name.terms → AreNames (with_terms names name)
@@ -227,11 +235,11 @@ module _ (names : Tables) (name : TermsName) (kept : AreNames names) (home : IsT
 
 -- what the lists keep after a push, whether it was refused or not
 
-pub space_pushed : (names : Tables) (space : ProtectionSpace) (done : Bool) (spaces : List ProtectionSpace) → spaces ≡ cond done (names.spaces ++ space ∷ []) names.spaces → AreNames names × AreFew 2048 names → space_number names space ≡ None → length names.spaces < 131072 → AreNames (record names { spaces = spaces }) × AreFew 2048 (record names { spaces = spaces })
-space_pushed names space true spaces is kept none few =
+pub space_pushed : (names : Tables) (space : ProtectionSpace) (done : Bool) (spaces : List ProtectionSpace) → spaces ≡ cond done (names.spaces ++ space ∷ []) names.spaces → AreNames names × AreFew 2048 names → IsTrue (has_realm space.scheme space.realm) → space_number names space ≡ None → length names.spaces < 131072 → AreNames (record names { spaces = spaces }) × AreFew 2048 (record names { spaces = spaces })
+space_pushed names space true spaces is kept fit none few =
     subst (λ xs. AreNames (record names { spaces = xs }) × AreFew 2048 (record names { spaces = xs })) (sym is)
-    (AreNames-space names space kept.0 none, record { spaces = omega (arith, length-append names.spaces (space ∷ [])); terms = kept.1.terms; nonces = kept.1.nonces; texts = kept.1.texts })
-space_pushed names space false spaces is kept none few =
+    (AreNames-space names space kept.0 fit none, record { spaces = omega (arith, length-append names.spaces (space ∷ [])); terms = kept.1.terms; nonces = kept.1.nonces; texts = kept.1.texts })
+space_pushed names space false spaces is kept fit none few =
     subst (λ xs. AreNames (record names { spaces = xs }) × AreFew 2048 (record names { spaces = xs })) (sym is) kept
 
 pub text_pushed : (names : Tables) (text : Login) (done : Bool) (texts : List Login) → texts ≡ cond done (names.texts ++ text ∷ []) names.texts → AreNames names × AreFew 2048 names → length names.texts < 131072 → AreNames (record names { texts = texts }) × AreFew 2048 (record names { texts = texts })

@@ -3,6 +3,7 @@ use Rattle.std.proofs.Common.{◌≡◌, ℕ}
 use Rattle.std.specs.Prelude.{List, [], ◌∷◌, IsTrue, Option, Some, length}
 use Rattle.std.specs.Coded.{×_prop, Unit-prop, Coded, Coded-set, codes}
 use Rattle.std.proofs.Props.{props}
+use Rattle.spaces.specs.ProtectionSpaces.{ProtectionSpace, has_realm}
 use Rattle.spaces.specs.Sites.{numbered}
 use Rattle.spaces.specs.declared.roster.Roster.{Roster}
 use Rattle.auth_events.specs.declared.journal.Entry.{Entry}
@@ -44,6 +45,7 @@ AreNames-prop names x y =
     let home_prop : IsProp ((name : TermsName) (i : ℕ) → numbered names.terms i ≡ Some name → AreAtHome names name) = Prim.hlevel (props, AreAtHome-prop) in
     let nonces_prop : IsProp (IsNumberedOnce names.nonces) = Prim.hlevel props in
     let rising_prop : IsProp (IsTrue (is_rising (nonce_numbers names.terms))) = Prim.hlevel props in
+    let realms_prop : IsProp ((space : ProtectionSpace) (i : ℕ) → numbered names.spaces i ≡ Some space → IsTrue (has_realm space.scheme space.realm)) = Prim.hlevel props in
     let used_prop : IsProp (greatest (nonce_numbers names.terms) ≡ length names.nonces) = Prim.hlevel props in
     λ i. record {
       spaces = spaces_prop x.spaces y.spaces i;
@@ -52,6 +54,7 @@ AreNames-prop names x y =
       nonces = nonces_prop x.nonces y.nonces i;
       rising = rising_prop x.rising y.rising i;
       used = used_prop x.used y.used i;
+      realms = realms_prop x.realms y.realms i;
     }
 
 pub AreFew-prop : (n : ℕ) (names : Tables) → IsProp (AreFew n names)

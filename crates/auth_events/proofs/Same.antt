@@ -17,7 +17,7 @@ use Rattle.spaces.specs.declared.terms.Qop.TheVariants.{Auth, Missing}
 use Rattle.spaces.specs.declared.terms.Terms.{Terms}
 use Rattle.spaces.specs.ProtectionSpaces.{ProtectionSpace}
 use Rattle.spaces.specs.Sites.{same_origin, same_target, same_site, same_scheme, same_space}
-use Rattle.spaces.specs.DigestTerms.{same_algorithm, same_said, same_opaque, same_qop, same_terms}
+use Rattle.spaces.specs.DigestTerms.{same_algorithm, same_flag, same_opaque, same_qop, same_terms}
 use Rattle.auth_events.proofs.Numbers.{and_left, and_right, both}
 
 all_three : (a b c : Bool) → IsTrue (a && b && c) → IsTrue a × IsTrue b × IsTrue c
@@ -137,15 +137,15 @@ qop_refl : (a : Qop) → IsTrue (same_qop a a)
 qop_refl Auth = refl
 qop_refl Missing = refl
 
-said_same : (a b : Bool) → IsTrue (same_said a b) → a ≡ b
-said_same true true same = refl
-said_same false false same = refl
-said_same true false same = absurd (false≢true same)
-said_same false true same = absurd (false≢true same)
+flag_same : (a b : Bool) → IsTrue (same_flag a b) → a ≡ b
+flag_same true true same = refl
+flag_same false false same = refl
+flag_same true false same = absurd (false≢true same)
+flag_same false true same = absurd (false≢true same)
 
-said_refl : (a : Bool) → IsTrue (same_said a a)
-said_refl true = refl
-said_refl false = refl
+flag_refl : (a : Bool) → IsTrue (same_flag a a)
+flag_refl true = refl
+flag_refl false = refl
 
 opaque_same : (a b : Option (List ℕ)) → IsTrue (same_opaque a b) → a ≡ b
 opaque_same None None same = refl
@@ -157,23 +157,31 @@ opaque_refl : (a : Option (List ℕ)) → IsTrue (same_opaque a a)
 opaque_refl None = refl
 opaque_refl (Some a) = bytes_refl a
 
-terms_of_parts : (a a' : Algorithm) (s s' : Bool) (r r' n n' : List ℕ) (o o' : Option (List ℕ)) (q q' : Qop) → a ≡ a' → s ≡ s' → r ≡ r' → n ≡ n' → o ≡ o' → q ≡ q' → ◌≡◌ {A = Terms} (record { algorithm = a; said = s; realm = r; nonce = n; opaque = o; qop = q }) (record { algorithm = a'; said = s'; realm = r'; nonce = n'; opaque = o'; qop = q' })
-terms_of_parts a a' s s' r r' n n' o o' q q' same_a same_s same_r same_n same_o same_q = cc
+terms_of_parts : (a a' : Algorithm) (s s' : Bool) (r r' n n' : List ℕ) (o o' : Option (List ℕ)) (q q' : Qop) (h h' : Bool) → a ≡ a' → s ≡ s' → r ≡ r' → n ≡ n' → o ≡ o' → q ≡ q' → h ≡ h' → ◌≡◌ {A = Terms} (record { algorithm = a; said = s; realm = r; nonce = n; opaque = o; qop = q; userhash = h }) (record { algorithm = a'; said = s'; realm = r'; nonce = n'; opaque = o'; qop = q'; userhash = h' })
+terms_of_parts a a' s s' r r' n n' o o' q q' h h' same_a same_s same_r same_n same_o same_q same_h = cc
 
 pub terms_same : (a b : Terms) → IsTrue (same_terms a b) → a ≡ b
 terms_same a b same =
-    let first = same_algorithm a.algorithm b.algorithm && same_said a.said b.said && bytes_eq a.realm b.realm && bytes_eq a.nonce b.nonce in
-    let last = all_three first (same_opaque a.opaque b.opaque) (same_qop a.qop b.qop) same in
-    let middle = all_three (same_algorithm a.algorithm b.algorithm && same_said a.said b.said) (bytes_eq a.realm b.realm) (bytes_eq a.nonce b.nonce) last.0 in
-    terms_of_parts a.algorithm b.algorithm a.said b.said a.realm b.realm a.nonce b.nonce a.opaque b.opaque a.qop b.qop
-    (algorithm_same a.algorithm b.algorithm (and_left (same_algorithm a.algorithm b.algorithm) (same_said a.said b.said) middle.0))
-    (said_same a.said b.said (and_right (same_algorithm a.algorithm b.algorithm) (same_said a.said b.said) middle.0))
+    let algorithm = same_algorithm a.algorithm b.algorithm && same_flag a.said b.said in
+    let first = algorithm && bytes_eq a.realm b.realm && bytes_eq a.nonce b.nonce in
+    let last = all_three (first && same_opaque a.opaque b.opaque) (same_qop a.qop b.qop) (same_flag a.userhash b.userhash) same in
+    let before = and_left first (same_opaque a.opaque b.opaque) last.0 in
+    let middle = all_three algorithm (bytes_eq a.realm b.realm) (bytes_eq a.nonce b.nonce) before in
+    terms_of_parts a.algorithm b.algorithm a.said b.said a.realm b.realm a.nonce b.nonce a.opaque b.opaque a.qop b.qop a.userhash b.userhash
+    (algorithm_same a.algorithm b.algorithm (and_left (same_algorithm a.algorithm b.algorithm) (same_flag a.said b.said) middle.0))
+    (flag_same a.said b.said (and_right (same_algorithm a.algorithm b.algorithm) (same_flag a.said b.said) middle.0))
     (bytes_same a.realm b.realm middle.1) (bytes_same a.nonce b.nonce middle.2)
-    (opaque_same a.opaque b.opaque last.1) (qop_same a.qop b.qop last.2)
+    (opaque_same a.opaque b.opaque (and_right first (same_opaque a.opaque b.opaque) last.0))
+    (qop_same a.qop b.qop last.1) (flag_same a.userhash b.userhash last.2)
 
 pub terms_refl : (a : Terms) → IsTrue (same_terms a a)
 terms_refl a =
-    three (same_algorithm a.algorithm a.algorithm && same_said a.said a.said && bytes_eq a.realm a.realm && bytes_eq a.nonce a.nonce) (same_opaque a.opaque a.opaque) (same_qop a.qop a.qop)
-    (three (same_algorithm a.algorithm a.algorithm && same_said a.said a.said) (bytes_eq a.realm a.realm) (bytes_eq a.nonce a.nonce)
-    (both (same_algorithm a.algorithm a.algorithm) (same_said a.said a.said) (algorithm_refl a.algorithm) (said_refl a.said)) (bytes_refl a.realm) (bytes_refl a.nonce))
-    (opaque_refl a.opaque) (qop_refl a.qop)
+    let algorithm = same_algorithm a.algorithm a.algorithm && same_flag a.said a.said in
+    let first = algorithm && bytes_eq a.realm a.realm && bytes_eq a.nonce a.nonce in
+    three (first && same_opaque a.opaque a.opaque) (same_qop a.qop a.qop) (same_flag a.userhash a.userhash)
+    (both first (same_opaque a.opaque a.opaque)
+    (three algorithm (bytes_eq a.realm a.realm) (bytes_eq a.nonce a.nonce)
+    (both (same_algorithm a.algorithm a.algorithm) (same_flag a.said a.said) (algorithm_refl a.algorithm) (flag_refl a.said))
+    (bytes_refl a.realm) (bytes_refl a.nonce))
+    (opaque_refl a.opaque))
+    (qop_refl a.qop) (flag_refl a.userhash)

@@ -1,5 +1,5 @@
 -- What a book may be asked, and what it replies: a function of its roster, its names and its past.
-use Rattle.std.specs.Prelude.{◌≡◌, ℕ, ◌+◌, Bool, true, false, not, ◌&&◌, ◌||◌, ◌==◌, nat_lt, nat_le, if◌then◌else◌, IsTrue, List, [], ◌∷◌, ◌++◌, length, reverse, Option, None, Some, is_some, filter, find, unwrap_or, option_map, option_and_then, fold, drop}
+use Rattle.std.specs.Prelude.{◌≡◌, ℕ, ◌+◌, Bool, true, false, not, ◌&&◌, ◌||◌, ◌==◌, nat_lt, nat_le, if◌then◌else◌, IsTrue, List, [], ◌∷◌, ◌++◌, length, reverse, Option, None, Some, is_some, filter, find, unwrap_or, option_map, option_and_then, fold, bytes_eq}
 use Rattle.std.specs.List.{list_any}
 use Rattle.spaces.specs.declared.roster.Roster.{Roster}
 use Rattle.spaces.specs.declared.site.Site.{Site}
@@ -18,25 +18,16 @@ use Rattle.auth_events.specs.declared.journal.BookReply.TheVariants.{Begun, Read
 use Rattle.auth_events.specs.declared.journal.Entry.{Entry}
 use Rattle.auth_events.specs.Tables.{Tables}
 use Rattle.auth_events.specs.Pages.{fits}
+pub use Rattle.auth_events.specs.Directories.{NotedDir, Found, with_room, with_dir, longer, better, best_found}
 use Rattle.auth_events.specs.Past.{takes_away, current, live, spaces_given, evicted, current_ordinal, givings, terms, lead, settled, open_lead, leads, leads_of, end, prompt_led, prompt_followed, is_lead, selects}
-
--- a directory, and how many entries stood before the one that noted it
-pub record Noted_dir : Type 0 where
-  pub dir : List ℕ
-  pub place : ℕ
-
--- a directory of a space
-pub record Found : Type 0 where
-  pub space : ℕ
-  pub noted : Noted_dir
 
 -- who a prompt's reply or a choice names
 pub data Choice : Type 0 where
-  By_url : Choice
-  By_cache : Gift → Choice
-  By_default : Choice
-  By_following : ℕ → Choice
-  By_leading : Choice
+  ByUrl : Choice
+  ByCache : Gift → Choice
+  ByDefault : Choice
+  ByFollowing : ℕ → Choice
+  ByLeading : Choice
 
 abbrev pub same_gift : Gift → Gift → Bool
 same_gift a b = a.space == b.space && a.ordinal == b.ordinal
@@ -118,22 +109,8 @@ abbrev pub space_selected : Call → ℕ
 space_selected (Select space terms) = space
 space_selected _ = 0
 
--- of more than ten directories the first is dropped, so that one more makes ten
-abbrev pub with_room : List Noted_dir → List Noted_dir
-with_room dirs = if nat_lt (length dirs) 10 then dirs else drop 1 dirs
-
--- with one directory more, unless one covers it; those that it covers are removed
-abbrev pub with_dir : Noted_dir → List Noted_dir → List Noted_dir
-with_dir noted dirs =
-    if list_any (λ held. covers held.dir noted.dir) dirs
-    then dirs
-    else with_room (filter (λ held. not (covers noted.dir held.dir)) dirs) ++ noted ∷ []
-
 abbrev pub next_gift : List Entry → ℕ → Gift
 next_gift past s = record { space = s; ordinal = givings past s + 1 }
-
-abbrev pub longer : Noted_dir → Noted_dir → Bool
-longer a b = nat_lt (length b.dir) (length a.dir) || length a.dir == length b.dir && nat_lt b.place a.place
 
 -- CHOICE
 
@@ -182,32 +159,21 @@ no_entry past r = length (own past r) == 0
 abbrev pub given_answer : (ℕ → Bool) → List Entry → ℕ → ℕ → BookReply
 given_answer is_rival past s text = if text == 0 then Cancelled else Given (next_gift past s) (evicted is_rival past s)
 
--- of two places that were found the better one: the longer directory, and of equal ones the one that was added last
-abbrev pub better : Option Found → Option Found → Option Found
-better None b = b
-better (Some a) None = Some a
-better (Some a) (Some b) = if longer a.noted b.noted then Some a else Some b
-
--- the best that is found at the things of a list
-abbrev pub best_found : {A : Type 0} → (A → Option Found) → List A → Option Found
-best_found look [] = None
-best_found look (x ∷ xs) = better (look x) (best_found look xs)
-
 -- the first that holds: the URL's identity, the gift that the space holds, the default identity, an open prompt, or else a prompt of its own
 abbrev pub first_choice : Bool → Option Gift → Bool → Option Entry → Choice
-first_choice true held ambient led = By_url
-first_choice false (Some gift) ambient led = By_cache gift
-first_choice false None true led = By_default
-first_choice false None false (Some entry) = By_following (prompt_led entry.reply)
-first_choice false None false None = By_leading
+first_choice true held ambient led = ByUrl
+first_choice false (Some gift) ambient led = ByCache gift
+first_choice false None true led = ByDefault
+first_choice false None false (Some entry) = ByFollowing (prompt_led entry.reply)
+first_choice false None false None = ByLeading
 
 -- the reply to a `Select` by the choice
 abbrev pub select_answer : (ℕ → Bool) → List Entry → ℕ → Choice → BookReply
-select_answer is_rival past s By_url = Url (next_gift past s) (evicted is_rival past s)
-select_answer is_rival past s (By_cache gift) = Cached gift
-select_answer is_rival past s By_default = Default
-select_answer is_rival past s (By_following p) = Follow p
-select_answer is_rival past s By_leading = Lead (leads past + 1) (leads_of past s + 1)
+select_answer is_rival past s ByUrl = Url (next_gift past s) (evicted is_rival past s)
+select_answer is_rival past s (ByCache gift) = Cached gift
+select_answer is_rival past s ByDefault = Default
+select_answer is_rival past s (ByFollowing p) = Follow p
+select_answer is_rival past s ByLeading = Lead (leads past + 1) (leads_of past s + 1)
 
 -- what the names tell
 
@@ -226,9 +192,13 @@ module _ (names : Tables) where
   abbrev pub is_of_site : Site → ℕ → Bool
   is_of_site place s = unwrap_or (option_map (λ space. same_site space.site place) (space_named s)) false
 
-  -- giving the space may evict the other one: any space may go
+  -- the space is one of the partition
+  abbrev pub is_of_partition : List ℕ → ℕ → Bool
+  is_of_partition partition s = unwrap_or (option_map (λ space. bytes_eq space.site.partition partition) (space_named s)) false
+
+  -- giving the space may evict the other one: one of its own partition
   abbrev pub is_rival : ℕ → ℕ → Bool
-  is_rival s other = true
+  is_rival s other = unwrap_or (option_map (λ space. is_of_partition space.site.partition other) (space_named s)) false
 
   abbrev pub nonce_of : ℕ → ℕ
   nonce_of t = unwrap_or (option_map (λ name. name.nonce) (numbered names.terms t)) 0
@@ -297,12 +267,12 @@ module _ (roster : Roster) where
 
 module _ (roster : Roster) (names : Tables) where
   -- the directories of the space, in the order in which they were added
-  abbrev pub dirs : List Entry → ℕ → List Noted_dir
+  abbrev pub dirs : List Entry → ℕ → List NotedDir
   dirs [] s = []
   dirs (entry ∷ past) s =
       after entry (length past) (dirs past s)
     where
-      after : Entry → ℕ → List Noted_dir → List Noted_dir
+      after : Entry → ℕ → List NotedDir → List NotedDir
       after e place before =
           if takes_away e s
           then []

@@ -7,7 +7,7 @@ use Rattle.auth_events.specs.declared.told.Told.{Told}
 use Rattle.auth_events.specs.Tables.{Tables, AreNames, AreFew}
 use Rattle.auth_events.specs.Pages.{IsWithinRoom}
 use Rattle.auth_events.specs.Book.{IsLegalPast}
-use Rattle.auth_events.specs.Told.{IsNamed, names_told, weave}
+use Rattle.auth_events.specs.Told.{IsLegalThroughout, IsNamed, names_told, weave}
 
 -- the told list of the entries and the new names
 abbrev pub told_of : Tables → List NewName → List Entry → List Told
@@ -23,5 +23,7 @@ pub record IsKept (roster : Roster) (names : Tables) (made : List NewName) (entr
   pub named : All (IsNamed names) made
   -- the names are those that were told
   pub told : names_told (told_of names made entries) ≡ names
+  -- each name was made before an entry used it
+  pub throughout : IsLegalThroughout roster (told_of names made entries)
   pub are_names : AreNames names
   pub within : AreFew (length roster.requests) names

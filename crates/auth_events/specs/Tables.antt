@@ -1,11 +1,11 @@
 -- The names of a book: what its numbers stand for. Numbers begin at 1.
-use Rattle.std.specs.Prelude.{◌≡◌, ℕ, suc, ◌+◌, ◌*◌, ◌≤◌, Bool, true, false, ◌&&◌, ◌==◌, nat_le, if◌then◌else◌, IsTrue, List, [], ◌∷◌, ◌++◌, length, map, reverse, Option, Some, option_map, unwrap_or, bytes_eq}
+use Rattle.std.specs.Prelude.{◌≡◌, ℕ, suc, ◌+◌, ◌*◌, ◌≤◌, Bool, true, false, ◌&&◌, ◌==◌, nat_le, if◌then◌else◌, IsTrue, List, [], ◌∷◌, ◌++◌, length, map, reverse, Option, Some, is_some, option_map, unwrap_or, bytes_eq}
 use Rattle.std.specs.List.{position_from, cons_option}
 use Rattle.auth_text.specs.Login.{Login}
 use Rattle.spaces.specs.declared.site.Site.{Site}
 use Rattle.spaces.specs.declared.space.Scheme.TheVariants.{Digest}
 use Rattle.spaces.specs.declared.terms.Terms.{Terms}
-use Rattle.spaces.specs.ProtectionSpaces.{ProtectionSpace}
+use Rattle.spaces.specs.ProtectionSpaces.{ProtectionSpace, has_realm}
 use Rattle.spaces.specs.DigestTerms.{same_terms}
 use Rattle.spaces.specs.Sites.{numbered, same_scheme, same_site, same_space}
 use Rattle.auth_events.specs.declared.names.TermsName.{TermsName}
@@ -65,9 +65,20 @@ abbrev pub with_nonce : Tables → TermsName → List NonceName
 with_nonce names name =
     if nat_le name.nonce (length names.nonces) then names.nonces else names.nonces ++ cons_option (nonce_named names name) []
 
+-- with the space, where it has no number yet
+abbrev pub with_new_space : Tables → ProtectionSpace → Tables
+with_new_space names space = if is_some (space_number names space) then names else with_space names space
+
 -- with terms more
 abbrev pub with_terms : Tables → TermsName → Tables
 with_terms names name = record names { terms = names.terms ++ name ∷ []; nonces = with_nonce names name }
+
+-- with the terms of the space, where they have no number yet
+abbrev pub with_new_terms : Tables → ℕ → Terms → Tables
+with_new_terms names s terms =
+    if is_some (terms_number names s terms)
+    then names
+    else with_terms names (record { space = s; terms = terms; nonce = nonce_for names s terms })
 
 -- with a text more
 abbrev pub with_text : Tables → Login → Tables
@@ -114,6 +125,8 @@ pub record AreNames (names : Tables) : Type 0 where
   pub rising : IsTrue (is_rising (nonce_numbers names.terms))
   -- each nonce has terms
   pub used : greatest (nonce_numbers names.terms) ≡ length names.nonces
+  -- a Negotiate space has the empty realm
+  pub realms : (space : ProtectionSpace) (i : ℕ) → numbered names.spaces i ≡ Some space → IsTrue (has_realm space.scheme space.realm)
 
 -- the limits: of each kind 64 for each request, and of nonces 16
 pub record AreFew (requests : ℕ) (names : Tables) : Type 0 where

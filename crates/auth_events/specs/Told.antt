@@ -1,5 +1,5 @@
 -- What a book tells: its entries and its new names, in the order in which they were made.
-use Rattle.std.specs.Prelude.{ℕ, ◌⊎◌, ◌+◌, ◌<◌, ◌*◌, Bool, true, false, not, if◌then◌else◌, IsTrue, List, [], ◌∷◌, ◌++◌, length, reverse, Option, None, Some, is_some, filter, filter_map, option_map, ◌==◌}
+use Rattle.std.specs.Prelude.{ℕ, ◌⊎◌, ◌+◌, ◌<◌, ◌*◌, Bool, true, false, not, if◌then◌else◌, IsTrue, List, [], ◌∷◌, ◌++◌, length, reverse, take, Option, None, Some, is_some, filter, filter_map, option_map, ◌==◌}
 use Rattle.std.specs.List.{fold, list_all}
 use Rattle.spaces.specs.declared.roster.Roster.{Roster}
 use Rattle.spaces.specs.declared.terms.Terms.{Terms}
@@ -14,7 +14,7 @@ use Rattle.auth_events.specs.declared.told.NewName.{NewName}
 use Rattle.auth_events.specs.declared.told.NameKind.{NameKind}
 use Rattle.auth_events.specs.declared.told.NameKind.TheVariants.{Space as OfSpace, Terms as OfTerms, Text as OfText}
 use Rattle.auth_events.specs.Tables.{Tables, no_names, with_space, with_terms, with_text, space_number, terms_number, nonce_for}
-use Rattle.auth_events.specs.Book.{retired, draws}
+use Rattle.auth_events.specs.Book.{IsLegal, retired, draws}
 
 abbrev pub entry_told : Told → Option Entry
 entry_told (Made entry) = Some entry
@@ -44,6 +44,10 @@ names_told told = fold with_told no_names told
 -- the entries are those of calls: draws stand in merged histories only
 abbrev pub has_no_draw : List Told → Bool
 has_no_draw told = list_all (λ entry. not (draws entry.call)) (journal told)
+
+-- each number stood for its thing before an entry used it: what was told first is legal under the names that were told by then
+abbrev pub IsLegalThroughout : Roster → List Told → Type 0
+IsLegalThroughout roster told = (n : ℕ) → IsLegal roster (names_told (take n told)) (journal (take n told))
 
 -- WHAT A CALL ADDS
 

@@ -30,7 +30,7 @@ pub trait Controller {
     ghost use Rattle.auth_events.specs.Tables.{Tables, AreNames, AreFew, is_home};
     ghost use Rattle.auth_events.specs.Book.{allowed, answer, IsLegal};
     ghost use Rattle.auth_events.specs.Identities.{giving, identity};
-    ghost use Rattle.auth_events.specs.Told.{journal, past, names_told, has_no_draw, told_after, retired_by, told_space, told_terms, MayNameSpace, MayNameTerms};
+    ghost use Rattle.auth_events.specs.Told.{IsLegalThroughout, journal, past, names_told, has_no_draw, told_after, retired_by, told_space, told_terms, MayNameSpace, MayNameTerms};
 
     /// The requests that it serves.
     ghost roster: { Self → Roster };
@@ -105,6 +105,10 @@ pub trait Controller {
 
     /// The journal of what it tells is legal.
     ghost legal: { (book : Self) → IsLegal (roster book) (names book) (journal (told book)) };
+
+    /// What it told first is legal under the names that it told by then: each thing was named before an
+    /// entry used its number.
+    ghost legal_throughout: { (book : Self) → IsLegalThroughout (roster book) (told book) };
 
     /// Draws are no entries of a book.
     ghost no_draw: { (book : Self) → IsTrue (has_no_draw (told book)) };

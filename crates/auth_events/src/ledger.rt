@@ -7,13 +7,12 @@ ghost use Rattle.auth_events.specs.Tables.{terms_number};
 ghost use Rattle.auth_events.specs.Ledgers.{IsKept};
 
 use crate::controller::TermsRef;
-use crate::copies::{copy_identity, copy_roster, copy_space, copy_terms};
 use crate::identities::{giving, identity_given};
 use crate::journal::{Entry, Gift, Journal};
 use crate::names::{Names, TermsName};
 use crate::told::{NameKind, NewName};
 use auth_text::{Identity, NoMemory};
-use spaces::{Roster, Space, Terms};
+use spaces::{Roster, Space, Terms, copy_identity, copy_roster, copy_space, copy_terms};
 use std::alloc::Global;
 
 /// What a book records. Its journal is legal under its roster and names.
@@ -46,7 +45,7 @@ fn numbers_of(names: &Names, space: u32, terms: &Terms) -> Option<TermsRef>
 impl Ledger {
     ghost use Rattle.std.specs.Prelude.{◌≡◌, ◌≤◌, ◌++◌, ◌∷◌, [], ◌+◌, ◌<◌, ◌*◌, length, reverse, IsTrue, IfOk, OnOk, OnErr, Some, None, is_some, option_copied, option_map, false};
     ghost use Rattle.spaces.specs.Sites.{numbered};
-    ghost use Rattle.auth_events.specs.Tables.{no_names, is_home, space_number, terms_number};
+    ghost use Rattle.auth_events.specs.Tables.{no_names, is_home, space_number, terms_number, with_new_space, with_new_terms, with_text};
     ghost use Rattle.auth_events.specs.Pages.{IsWithinRoom};
     ghost use Rattle.auth_events.specs.Book.{allowed, answer};
     ghost use Rattle.auth_events.specs.Identities.{giving, identity};
@@ -91,6 +90,7 @@ impl Ledger {
         ensures roster { result.0 ≡ self.roster }
         ensures names { result.1 ≡ self.names }
         ensures entries { result.2.entries ≡ self.journal.entries }
+        ensures requests { result.2.requests ≡ length self.roster.requests }
     {
         (self.roster, self.names, self.journal)
     }
@@ -131,6 +131,7 @@ impl Ledger {
         ensures told { OnOk result (told_of self.new.names self.new.made.items self.new.journal.entries ≡ told_space caller self.old.names (told_of self.old.names self.old.made.items self.old.journal.entries) space.now) }
         ensures entries { self.new.journal ≡ self.old.journal }
         ensures roster { self.new.roster ≡ self.old.roster }
+        ensures named { OnOk result (self.new.names ≡ with_new_space self.old.names space.now) }
         ensures names { OnErr result (self.new.names ≡ self.old.names) }
         ensures made { OnErr result (self.new.made.items ≡ self.old.made.items) }
     {
@@ -147,6 +148,7 @@ impl Ledger {
         ensures told { OnOk result (told_of self.new.names self.new.made.items self.new.journal.entries ≡ told_space caller self.old.names (told_of self.old.names self.old.made.items self.old.journal.entries) space.now) }
         ensures entries { self.new.journal ≡ self.old.journal }
         ensures roster { self.new.roster ≡ self.old.roster }
+        ensures named { OnOk result (self.new.names ≡ with_new_space self.old.names space.now) }
         ensures names { OnErr result (self.new.names ≡ self.old.names) }
         ensures made { OnErr result (self.new.made.items ≡ self.old.made.items) }
     {
@@ -173,6 +175,7 @@ impl Ledger {
         ensures told { OnOk result (told_of self.new.names self.new.made.items self.new.journal.entries ≡ told_terms caller self.old.names (told_of self.old.names self.old.made.items self.old.journal.entries) space terms.now) }
         ensures entries { self.new.journal ≡ self.old.journal }
         ensures roster { self.new.roster ≡ self.old.roster }
+        ensures named { OnOk result (self.new.names ≡ with_new_terms self.old.names space terms.now) }
         ensures names { OnErr result (self.new.names ≡ self.old.names) }
         ensures made { OnErr result (self.new.made.items ≡ self.old.made.items) }
     {
@@ -190,6 +193,7 @@ impl Ledger {
         ensures told { OnOk result (told_of self.new.names self.new.made.items self.new.journal.entries ≡ told_terms caller self.old.names (told_of self.old.names self.old.made.items self.old.journal.entries) space terms.now) }
         ensures entries { self.new.journal ≡ self.old.journal }
         ensures roster { self.new.roster ≡ self.old.roster }
+        ensures named { OnOk result (self.new.names ≡ with_new_terms self.old.names space terms.now) }
         ensures names { OnErr result (self.new.names ≡ self.old.names) }
         ensures made { OnErr result (self.new.made.items ≡ self.old.made.items) }
     {
@@ -222,6 +226,7 @@ impl Ledger {
         ensures told { OnOk result (told_of self.new.names self.new.made.items self.new.journal.entries ≡ told_of self.old.names self.old.made.items self.old.journal.entries ++ TextNamed caller identity.now ∷ []) }
         ensures entries { self.new.journal ≡ self.old.journal }
         ensures roster { self.new.roster ≡ self.old.roster }
+        ensures named { OnOk result (self.new.names ≡ with_text self.old.names identity.now) }
         ensures names { OnErr result (self.new.names ≡ self.old.names) }
         ensures made { OnErr result (self.new.made.items ≡ self.old.made.items) }
     {

@@ -4,14 +4,11 @@
 #![tactic(auto)]
 
 mod controller;
-mod copies;
 mod identities;
 mod journal;
-pub mod laws;
 mod ledger;
 mod names;
 mod told;
-pub mod worked;
 
 pub use controller::{Controller, Did, TermsRef};
 pub use journal::{BookReply, Call, Drawn, Entry, Gift, Journal, Loss};

@@ -3,6 +3,7 @@
 
 ghost use Rattle.std.specs.Prelude.{◌≡◌, ◌≤◌, ◌<◌, ◌+◌, ◌++◌, ◌∷◌, [], length, OnOk, OnErr, IfErr, IfOk, IfSome, IsTrue, option_copied, option_map, suc, None, Some};
 ghost use Rattle.std.specs.List.{position_from};
+ghost use Rattle.spaces.specs.ProtectionSpaces.{has_realm};
 ghost use Rattle.spaces.specs.Sites.{numbered, same_space};
 ghost use Rattle.auth_events.specs.Tables.{no_names, is_that_terms, is_that_nonce, space_number, terms_number, nonce_number, nonce_for, nonce_named, is_home, with_space, with_terms, with_text};
 
@@ -247,7 +248,10 @@ impl Names {
         ensures ok { OnOk result (self.new ≡ with_space self.old space) }
         ensures back { IfErr result (λ refused. refused.value ≡ space) }
         ensures err { OnErr result (self.new ≡ self.old) }
+        ensures fit { IsTrue (has_realm space.scheme space.realm) }
     {
+        // A space tells with its scheme that its realm fits it; the names keep that.
+        space.scheme();
         self.spaces.push(space)
     }
 

@@ -1,8 +1,9 @@
 -- The lines of the traces.
-use Rattle.std.specs.Prelude.{ℕ, ◌+◌, Bool, true, false, List, [], ◌∷◌, ◌++◌, codes}
+use Rattle.std.specs.Prelude.{ℕ, ◌+◌, Bool, true, false, List, [], ◌∷◌, ◌++◌, codes, if◌then◌else◌}
 use Rattle.wire_head.specs.declared.reply.Reply.{Reply}
 use Rattle.wire_head.specs.declared.reply.WireFault.{WireFault}
 use Rattle.wire_head.specs.declared.reply.WireFault.TheVariants.{BadHead, HeadTooLong, BadFraming, BodyTooLong, Cut}
+use Rattle.wire_head.specs.Replies.{is_challenge}
 use Rattle.link_trait.specs.declared.prompts.AskSeen.{AskSeen}
 use Rattle.link_trait.specs.declared.prompts.AskSeen.TheVariants.{Given as AskGiven, Cancel as AskCancel, Failed as AskFailed, NoMemory as AskNoMemory}
 use Rattle.link_trait.specs.declared.steps.StepSeen.{StepSeen}
@@ -35,9 +36,20 @@ abbrev pub field_words : List (List ℕ) → List ℕ
 field_words [] = []
 field_words (field ∷ fields) = value field ++ field_words fields
 
--- `code open body` or `code close body`, then the field values
+-- each info's value as a word, behind the word of its kind
+abbrev pub info_words : List ℕ → List (List ℕ) → List ℕ
+info_words kind [] = []
+info_words kind (info ∷ infos) = kind ++ value info ++ info_words kind infos
+
+-- the field values of a challenge, and the infos of another reply, the server's first
+abbrev pub value_words : Reply → List ℕ
+value_words reply =
+    if is_challenge reply.code then field_words reply.fields
+    else info_words (codes " info") reply.server_info ++ info_words (codes " proxyinfo") reply.proxy_info
+
+-- `code open body` or `code close body`, then the values
 abbrev pub reply_words : Reply → List ℕ
-reply_words reply = number reply.code ++ stays_word reply.stays ++ number reply.body ++ field_words reply.fields
+reply_words reply = number reply.code ++ stays_word reply.stays ++ number reply.body ++ value_words reply
 
 abbrev pub ask_words : AskSeen → List ℕ
 ask_words AskGiven = codes " given"

@@ -42,10 +42,16 @@ abbrev pub opaque_words : Option (List ℕ) → List ℕ
 opaque_words None = codes " noopaque"
 opaque_words (Some opaque) = codes " opaque" ++ value opaque
 
--- `algorithm said qop noncetext opaque`
+-- the last word, where the user's name goes out as its hash
+abbrev pub userhash_word : Bool → List ℕ
+userhash_word true = codes " userhash"
+userhash_word false = []
+
+-- `algorithm said qop noncetext opaque userhash`
 abbrev pub terms_words : Terms → List ℕ
 terms_words terms =
     algorithm_word terms.algorithm ++ said_word terms.said ++ qop_word terms.qop ++ value terms.nonce ++ opaque_words terms.opaque
+    ++ userhash_word terms.userhash
 
 -- `terms n space nonce ..`
 abbrev pub terms_line : ℕ → TermsName → List ℕ

@@ -7,6 +7,7 @@ use crate::words::{push_count, push_number, push_text, push_value, target_word};
 use auth_runs::{AskSeen, Event, Outcome, Reply, StepSeen, Trace, Why, WireFault};
 use auth_text::{Bytes, NoMemory};
 use std::alloc::Global;
+use wire_head::is_challenge;
 
 fn stays_word(stays: bool) -> &'static [u8]
     ensures { result.now ≡ spec.stays_word stays }
@@ -35,13 +36,34 @@ fn push_values(alloc: Global, out: &mut Bytes, values: &[Bytes]) -> Result<(), N
     Ok(())
 }
 
+/// Adds each info behind the word of its kind.
+fn push_infos(alloc: Global, out: &mut Bytes, kind: &[u8], infos: &[Bytes]) -> Result<(), NoMemory>
+    ensures { OnOk result (out.new ≡ out.old ++ spec.info_words kind.now infos.now) }
+{
+    for info in infos {
+        push_text(out, kind)?;
+        push_value(alloc, out, info.as_slice())?;
+    }
+    Ok(())
+}
+
+fn push_reply_values(alloc: Global, out: &mut Bytes, reply: &Reply) -> Result<(), NoMemory>
+    ensures { OnOk result (out.new ≡ out.old ++ spec.value_words reply.now) }
+{
+    if is_challenge(reply.code) {
+        return push_values(alloc, out, reply.fields.as_slice());
+    }
+    push_infos(alloc, out, b" info", reply.server_info.as_slice())?;
+    push_infos(alloc, out, b" proxyinfo", reply.proxy_info.as_slice())
+}
+
 fn push_reply(alloc: Global, out: &mut Bytes, reply: &Reply) -> Result<(), NoMemory>
     ensures { OnOk result (out.new ≡ out.old ++ spec.reply_words reply.now) }
 {
     push_number(out, u32::from(reply.code))?;
     push_text(out, stays_word(reply.stays))?;
     push_number(out, reply.body)?;
-    push_values(alloc, out, reply.fields.as_slice())
+    push_reply_values(alloc, out, reply)
 }
 
 fn push_asked(out: &mut Bytes, given: AskSeen) -> Result<(), NoMemory>

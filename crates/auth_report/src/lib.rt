@@ -6,8 +6,6 @@ mod event_lines;
 mod name_lines;
 mod report;
 mod roster_lines;
-#[cfg(test)]
-mod tests;
 mod words;
 
 pub use auth_runs::Run;

@@ -86,6 +86,12 @@ fn push_opaque(alloc: Global, out: &mut Bytes, opaque: &Option<Bytes>) -> Result
     }
 }
 
+fn userhash_word(userhash: bool) -> &'static [u8]
+    ensures { result.now ≡ spec.userhash_word userhash }
+{
+    if userhash { b" userhash" } else { b"" }
+}
+
 fn push_terms(alloc: Global, out: &mut Bytes, terms: &Terms) -> Result<(), NoMemory>
     ensures { OnOk result (out.new ≡ out.old ++ spec.terms_words terms.now) }
 {
@@ -93,7 +99,8 @@ fn push_terms(alloc: Global, out: &mut Bytes, terms: &Terms) -> Result<(), NoMem
     push_text(out, said_word(terms.said))?;
     push_text(out, qop_word(terms.qop))?;
     push_value(alloc, out, terms.nonce.as_slice())?;
-    push_opaque(alloc, out, &terms.opaque)
+    push_opaque(alloc, out, &terms.opaque)?;
+    push_text(out, userhash_word(terms.userhash))
 }
 
 fn push_terms_line(

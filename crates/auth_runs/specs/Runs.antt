@@ -8,7 +8,7 @@ use Rattle.auth_events.specs.Tables.{Tables, is_rising, greatest}
 use Rattle.auth_events.specs.declared.journal.Call.{Call}
 use Rattle.auth_events.specs.declared.journal.Call.TheVariants.{Select, Reject, Renew, Answer}
 use Rattle.auth_events.specs.declared.journal.Entry.{Entry}
-use Rattle.auth_events.specs.Fresh.{Step_told, Did_call, Did_draw, merge}
+use Rattle.auth_events.specs.Fresh.{StepTold, DidCall, DidDraw, merge}
 use Rattle.auth_runs.specs.declared.event.Event.{Event}
 use Rattle.auth_runs.specs.declared.event.Event.TheVariants.{Called, Drew, Ended}
 
@@ -44,9 +44,9 @@ trace run r = slice_index_or run.traces (r - 1) []
 -- THE HISTORY OF A RUN
 
 -- what the event tells of the book and of the nonce words
-abbrev pub step_told : Event → Option Step_told
-step_told (Called call reply) = Some Did_call
-step_told (Drew target nonce count epoch) = Some (Did_draw nonce count epoch)
+abbrev pub step_told : Event → Option StepTold
+step_told (Called call reply) = Some DidCall
+step_told (Drew target nonce count epoch) = Some (DidDraw nonce count epoch)
 step_told _ = None
 
 -- the journal, with each draw behind the entry that stands before it in its trace

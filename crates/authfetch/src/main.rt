@@ -33,6 +33,20 @@ fn is_word(words: &[Word], expected: &[u8]) -> bool {
     }
 }
 
+/// Writes a text of the program's own. A write that fails ends the program as one of the report would.
+fn print(rt: &HostRuntime, text: &str) -> ExitCode {
+    match println!(rt; "{text}") {
+        Ok(()) => ExitCode::SUCCESS,
+        Err(_) => end(rt, Status::WriteFault),
+    }
+}
+
+/// Tells how the program ended, and gives the exit status.
+fn end(rt: &HostRuntime, status: Status) -> ExitCode {
+    let _ = tell(rt, status);
+    ExitCode::from(number(status))
+}
+
 fn serve(rt: &HostRuntime, words: &[Word]) -> Status {
     let alloc = rt.alloc();
     let mut input = StdSource::new(rt.reader());
@@ -44,18 +58,14 @@ fn serve(rt: &HostRuntime, words: &[Word]) -> Status {
 
 fn main(rt: HostRuntime) -> ExitCode {
     let Ok(words) = words(&rt) else {
-        let _ = tell(&rt, Status::NoMemory);
-        return ExitCode::from(number(Status::NoMemory));
+        return end(&rt, Status::NoMemory);
     };
     if is_word(words.as_slice(), b"--help") {
-        let _ = println!(rt; "{HELP}");
-        return ExitCode::SUCCESS;
+        return print(&rt, HELP);
     }
     if is_word(words.as_slice(), b"--version") {
-        let _ = println!(rt; "{VERSION}");
-        return ExitCode::SUCCESS;
+        return print(&rt, VERSION);
     }
     let status = serve(&rt, words.as_slice());
-    let _ = tell(&rt, status);
-    ExitCode::from(number(status))
+    end(&rt, status)
 }

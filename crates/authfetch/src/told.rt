@@ -10,7 +10,11 @@ pub(crate) const HELP: &str = "authfetch answers HTTP 401 and 407 challenges.
   authfetch alone      reads a session from standard input, serves its requests in order over
                        the recorded links, writes the report
   authfetch --help     writes this text
-  authfetch --version  writes the version
+  authfetch --version  writes the version, and the logic that it was proved with
+
+docs/FORMATS.md says what a session and a report are, and when a line is wrong. An example:
+
+  authfetch alone < examples/first.session
 
 So far `alone` serves sessions without requests, and those of one GET that meets one Basic
 challenge; `recorded`, `live` and `generate N` are not there yet.
@@ -18,9 +22,8 @@ challenge; `recorded`, `live` and `generate N` are not there yet.
 Exit status: 0 done, 2 usage, 3 bad line, 4 read fault, 5 write fault, 6 no memory,
 7 too large, 8 too few gears. Each but 0 has its line on standard error.";
 
-/// The answer to `--version`.
-pub(crate) const VERSION: &str =
-    "authfetch 0.1.0, proved with rattle-kit-13f logic dac8208d650f15bf";
+/// The answer to `--version`. The sum is the last word of the line that the kit's `rt version` prints.
+pub(crate) const VERSION: &str = "authfetch 0.1.0, proved with the kit's logic dac8208d650f15bf";
 
 /// The exit status.
 pub(crate) fn number(status: Status) -> u8 {

@@ -9,7 +9,7 @@ ghost use Rattle.auth_text.specs.Gives.{GivesBy};
 ghost use Rattle.auth_text.specs.Login.{is_control, is_login, login_text};
 ghost use Rattle.basic_handler.specs.Basic.{basic, read_basic, is_colon, parts_at, scheme_text};
 
-use auth_text::{Bytes, Identity, IdentityFault, NoMemory};
+use auth_text::{Bytes, Identity, IdentityFault, NoMemory, front_of, rest_of};
 use base64::DecodeAllocError;
 use base64::engine::general_purpose::STANDARD;
 use std::alloc::Global;
@@ -72,20 +72,13 @@ fn colon_place(login: &[u8]) -> Option<usize>
     login.iter().position(|b| *b == b':')
 }
 
-fn behind(login: &[u8], colon: usize) -> &[u8]
-    requires { colon < length login.now }
-    ensures { result.now ≡ drop (colon + 1) login.now }
-{
-    &login[colon + 1..]
-}
-
 #[tactic(auto, using(crate::proofs::BasicLemmas::around))]
 fn identity_around(alloc: Global, login: &[u8], colon: usize) -> Result<Identity, BasicFault>
     requires is_first { position_from is_colon 0 login.now ≡ Some colon }
     requires within { colon < length login.now }
     ensures { GivesBy BasicFault.NoMemory (λ it. it) result (parts_at login.now colon (position_from is_control 0 login.now)) }
 {
-    match Identity::new(alloc, &login[..colon], behind(login, colon)) {
+    match Identity::new(alloc, front_of(login, colon), rest_of(login, colon + 1)) {
         Ok(identity) => Ok(identity),
         Err(IdentityFault::Control { at }) => Err(BasicFault::Control { at }),
         Err(_) => Err(BasicFault::NoMemory),

@@ -40,6 +40,8 @@ fn run<R: AllocGlobal + Threads + Wait + Sync>(rt: &R, kernel: Kernel, times: u3
     let done = match kernel {
         Kernel::Challenges => challenges::run(alloc, 400, times),
         Kernel::ChallengesQuarter => challenges::run(alloc, 100, times),
+        Kernel::Parameters => challenges::run_long(alloc, 10_000, times),
+        Kernel::ParametersQuarter => challenges::run_long(alloc, 2_500, times),
         Kernel::Replies => replies::run(alloc, times),
         Kernel::Respond(algorithm) => respond::run(alloc, algorithm, times),
         Kernel::Turns(crew) => turns::run(rt, alloc, crew, times),

@@ -26,6 +26,7 @@ fn terms(alloc: Global, algorithm: Algorithm) -> Result<Terms, NoMemory> {
         nonce: Bytes::from_slice(alloc, b"7ypf/xlj9XXwfDPEoM4URrv/xwf94BcCAzFZH4GiTo0v")?,
         opaque: Some(Bytes::from_slice(alloc, b"FQhe/qaU925kfnzjCev0ciny7QMkPqMAFRtzCUYo5tdS")?),
         qop: Qop::Auth,
+        userhash: false,
     })
 }
 

@@ -17,6 +17,10 @@ pub enum Kernel {
     Challenges,
     /// Readings of a field of 15,000 bytes.
     ChallengesQuarter,
+    /// Readings of one challenge with 10,000 parameters.
+    Parameters,
+    /// Readings of one challenge with 2,500 parameters.
+    ParametersQuarter,
     /// Credentials of a Digest request with this hash.
     Respond(Algorithm),
     /// Readings of one reply of 60,000 bytes, fed whole.
@@ -32,6 +36,8 @@ pub fn kernel_of(name: &str) -> Option<Kernel> {
     match name {
         "challenges" => Some(Kernel::Challenges),
         "challenges-quarter" => Some(Kernel::ChallengesQuarter),
+        "parameters" => Some(Kernel::Parameters),
+        "parameters-quarter" => Some(Kernel::ParametersQuarter),
         "respond-md5" => Some(Kernel::Respond(Algorithm::Md5)),
         "respond-sha256" => Some(Kernel::Respond(Algorithm::Sha256)),
         "replies" => Some(Kernel::Replies),

@@ -7,11 +7,12 @@ use Rattle.std.proofs.lemmas.List.{append-nil, drop-drop}
 use Rattle.std.proofs.lemmas.List.Folds.{list_all-append}
 use Rattle.std.proofs.Math.Seq.{take-append_seam, drop-append_seam}
 use Rattle.auth_text.specs.Text.{is_token_byte, folded}
+use Rattle.field_lists.specs.Blanks.{is_blank}
 use Rattle.challenge_tokens.specs.declared.piece.Quoting.TheVariants.{Outside}
 use Rattle.challenge_tokens.specs.declared.params.Param.{Param}
 use Rattle.challenge_tokens.specs.declared.piece.Form.{Form}
 use Rattle.challenge_tokens.specs.declared.piece.Form.TheVariants.{WithToken, WithParam, Bad}
-use Rattle.challenge_tokens.specs.Forms.{is_blank, token_len, is_token68_byte, is_token68, value_behind, param_of, head_param, argument_form}
+use Rattle.challenge_tokens.specs.Forms.{token_len, is_token68_byte, is_token68, value_behind, param_of, head_param, argument_form}
 use Rattle.challenge_tokens.specs.Cutting.{piece_len}
 use Rattle.challenge_tokens.specs.Front.{front, sized, if_empty, blank_piece, then_blank, starts, is_over, is_common, unless_bad, value_after}
 use Rattle.challenge_tokens.proofs.NameLemmas.{both}

@@ -4,14 +4,14 @@ use Rattle.std.specs.List.{list_all, flat_map}
 use Rattle.std.proofs.lemmas.Bool.{false≢true, eqb-true, lt-ltb}
 use Rattle.std.proofs.lemmas.List.{append-nil}
 use Rattle.auth_text.specs.Text.{is_token_byte}
+use Rattle.field_lists.specs.Blanks.{is_blank, trim_start, keep_unless_blank, trim_end}
 use Rattle.challenge_tokens.specs.declared.piece.Quoting.{Quoting}
 use Rattle.challenge_tokens.specs.declared.piece.Quoting.TheVariants.{Outside, Inside}
-use Rattle.challenge_tokens.specs.Forms.{after_byte, is_blank, trim_start}
-use Rattle.challenge_tokens.specs.Pieces.{keep_unless_blank, trim_end}
+use Rattle.challenge_tokens.specs.Forms.{after_byte}
 use Rattle.challenge_tokens.specs.Cutting.{piece_len}
 use Rattle.challenge_tokens.specs.Spelling.{SpelledByte, byte_text, are_blanks, is_right_byte}
 use Rattle.challenge_tokens.proofs.NameLemmas.{both, not_true}
-use Rattle.challenge_tokens.proofs.TrimLemmas.{trim_end-push_blank, trim_end-push_kept}
+use Rattle.field_lists.proofs.TrimLemmas.{trim_end-push_blank, trim_end-push_kept}
 
 -- ---- bytes that cut nothing
 

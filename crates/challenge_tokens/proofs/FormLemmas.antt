@@ -1,12 +1,13 @@
 -- The name of a parameter that was read is in lower case.
 use Rattle.std.proofs.Common.{◌≡◌, ℕ, ◌==◌, nat_lt, Bool, true, false, cond, List, [], ◌∷◌, take, drop, Option, Some, None, option_map, refl}
 use Rattle.std.specs.List.{prefix_len}
+use Rattle.field_lists.specs.Blanks.{trim_start}
 use Rattle.challenge_tokens.specs.declared.params.Param.{Param}
 use Rattle.challenge_tokens.specs.declared.piece.Form.{Form}
 use Rattle.challenge_tokens.specs.declared.piece.Form.TheVariants.{WithToken, Bad}
 use Rattle.auth_text.specs.Text.{folded}
 use Rattle.challenge_tokens.specs.Names.{is_lower}
-use Rattle.challenge_tokens.specs.Forms.{token_len, is_token68, trim_start, value_behind, named, param_of, or_param, head_param, argument_form, head_form, form_of, is_lower_form}
+use Rattle.challenge_tokens.specs.Forms.{token_len, is_token68, value_behind, named, param_of, or_param, head_param, argument_form, head_form, form_of, is_lower_form}
 use Rattle.challenge_tokens.proofs.NameLemmas.{is_lower-folded}
 
 abbrev lower_param : Option Param → Bool

@@ -4,9 +4,9 @@ use Rattle.std.specs.List.{list_all, prefix_len}
 use Rattle.std.proofs.lemmas.List.{take-append-drop}
 use Rattle.std.proofs.lemmas.List.Folds.{length-prefix_len}
 use Rattle.std.proofs.Math.Seq.{take-append-add}
+use Rattle.field_lists.specs.Blanks.{is_blank, keep_unless_blank, trim_end}
 use Rattle.challenge_tokens.specs.declared.piece.Quoting.TheVariants.{Outside}
-use Rattle.challenge_tokens.specs.Forms.{after_byte, is_blank}
-use Rattle.challenge_tokens.specs.Pieces.{keep_unless_blank, trim_end}
+use Rattle.challenge_tokens.specs.Forms.{after_byte}
 use Rattle.challenge_tokens.specs.Cutting.{piece_len}
 use Rattle.challenge_tokens.specs.Spelling.{are_blanks}
 use Rattle.challenge_tokens.specs.Front.{front, is_over, if_empty, blank_piece}

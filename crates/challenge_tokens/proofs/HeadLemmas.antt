@@ -4,11 +4,12 @@ use Rattle.std.specs.List.{list_all, prefix_len}
 use Rattle.std.proofs.lemmas.Bool.{false≢true, eqb-true}
 use Rattle.std.proofs.lemmas.List.{drop-drop}
 use Rattle.auth_text.specs.Text.{is_token_byte, folded}
+use Rattle.field_lists.specs.Blanks.{is_blank}
 use Rattle.challenge_tokens.specs.declared.piece.Quoting.TheVariants.{Outside}
 use Rattle.challenge_tokens.specs.declared.params.Param.{Param}
 use Rattle.challenge_tokens.specs.declared.piece.Form.{Form}
 use Rattle.challenge_tokens.specs.declared.piece.Form.TheVariants.{Bare, Parameter, Bad}
-use Rattle.challenge_tokens.specs.Forms.{is_blank, token_len, is_token68_byte, value_behind, or_param, argument_form, head_form, form_of}
+use Rattle.challenge_tokens.specs.Forms.{token_len, is_token68_byte, value_behind, or_param, argument_form, head_form, form_of}
 use Rattle.challenge_tokens.specs.Cutting.{piece_len}
 use Rattle.challenge_tokens.specs.Front.{front, sized, if_empty, blank_piece, starts, is_over, unless_bad, after_token}
 use Rattle.challenge_tokens.proofs.NameLemmas.{both}

@@ -1,7 +1,6 @@
 pub mod NameLemmas
 pub mod FlatLemmas
 pub mod CutLemmas
-pub mod TrimLemmas
 pub mod StepLemmas
 pub mod FormLemmas
 pub mod EdgeLemmas
@@ -15,3 +14,5 @@ pub mod SpellingLemmas
 pub mod SpellingWalk
 pub mod SpelledFields
 pub mod WritingLemmas
+pub mod IndexLemmas
+pub mod InfoLemmas

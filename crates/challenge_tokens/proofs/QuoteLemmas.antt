@@ -5,10 +5,11 @@ use Rattle.std.proofs.lemmas.List.{append-nil}
 use Rattle.std.proofs.Math.Seq.{take-append_seam, drop-append_seam}
 use Rattle.auth_text.specs.declared.quoted.QuoteFault.{QuoteFault}
 use Rattle.auth_text.specs.Quoted.{behind, closing, quoted, if_closed}
+use Rattle.field_lists.specs.Blanks.{is_blank, keep_unless_blank, trim_end}
 use Rattle.challenge_tokens.specs.declared.piece.Quoting.{Quoting}
 use Rattle.challenge_tokens.specs.declared.piece.Quoting.TheVariants.{Outside, Inside, Escaped}
-use Rattle.challenge_tokens.specs.Forms.{after_byte, is_blank, value_of, whole}
-use Rattle.challenge_tokens.specs.Pieces.{is_outside, keep_unless_blank, trim_end}
+use Rattle.challenge_tokens.specs.Forms.{after_byte, value_of, whole}
+use Rattle.challenge_tokens.specs.Pieces.{is_outside}
 use Rattle.challenge_tokens.specs.Cutting.{piece_len}
 use Rattle.challenge_tokens.specs.Front.{front, sized, if_empty, blank_piece, then_blank, if_read, starts}
 use Rattle.challenge_tokens.proofs.EdgeLemmas.{Passes, open_quote, keep_solid}

@@ -4,9 +4,10 @@ use Rattle.std.specs.List.{list_all, prefix_len}
 use Rattle.std.proofs.lemmas.Bool.{false≢true, lt-ltb, eqb-true}
 use Rattle.std.proofs.lemmas.List.{append-nil}
 use Rattle.auth_text.specs.Text.{is_token_byte, folded}
+use Rattle.field_lists.specs.Blanks.{is_blank, trim_start}
 use Rattle.challenge_tokens.specs.declared.piece.Quoting.TheVariants.{Outside}
 use Rattle.challenge_tokens.specs.declared.params.Param.{Param}
-use Rattle.challenge_tokens.specs.Forms.{is_blank, trim_start, token_len, is_token, value_of, value_behind, named, param_of}
+use Rattle.challenge_tokens.specs.Forms.{token_len, is_token, value_of, value_behind, named, param_of}
 use Rattle.challenge_tokens.specs.Cutting.{piece_len}
 use Rattle.challenge_tokens.specs.Spelling.{are_blanks}
 use Rattle.challenge_tokens.specs.Front.{front, sized, if_empty, blank_piece, then_blank, starts}

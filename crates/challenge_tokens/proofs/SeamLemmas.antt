@@ -4,6 +4,7 @@ use Rattle.std.specs.List.{prefix_len}
 use Rattle.std.proofs.lemmas.List.{drop-take}
 use Rattle.std.proofs.lemmas.List.Sums.{prefix_len-le-length}
 use Rattle.std.proofs.Math.Seq.{take-append-add}
+use Rattle.field_lists.specs.Blanks.{is_blank, trim_end}
 use Rattle.challenge_tokens.specs.declared.challenge.FieldRead.{FieldRead}
 use Rattle.challenge_tokens.specs.declared.piece.Form.{Form}
 use Rattle.challenge_tokens.specs.declared.piece.Form.TheVariants.{Bare, WithToken, WithParam, Parameter, Bad}
@@ -12,8 +13,8 @@ use Rattle.challenge_tokens.specs.declared.piece.Quoting.TheVariants.{Outside}
 use Rattle.challenge_tokens.specs.declared.field.Reading.{Reading}
 use Rattle.challenge_tokens.specs.declared.field.Next.{Next}
 use Rattle.challenge_tokens.specs.declared.field.Next.TheVariants.{Goes, Refused}
-use Rattle.challenge_tokens.specs.Forms.{after_byte, is_blank, form_of, is_lower_form}
-use Rattle.challenge_tokens.specs.Pieces.{is_outside, trim_end, field_read}
+use Rattle.challenge_tokens.specs.Forms.{after_byte, form_of, is_lower_form}
+use Rattle.challenge_tokens.specs.Pieces.{is_outside, field_read}
 use Rattle.challenge_tokens.specs.Cutting.{piece_len}
 use Rattle.challenge_tokens.specs.Reading.{is_refused, with_form, so_far, next_of}
 use Rattle.challenge_tokens.specs.Front.{front, sized, if_empty, blank_piece, unless_bad, next_by}
@@ -33,14 +34,14 @@ sized_some {X} (Some y) text x n is =
     let both : ◌≡◌ {A = X × ℕ} (x, n) (y, piece_len Outside text) = cc in
     (ap (λ (z : X × ℕ). Some z.0) (sym both), ap (λ (z : X × ℕ). z.1) both)
 
-good_form : (f g : Form) → unless_bad f ≡ Some g → f ≡ g
+pub good_form : (f g : Form) → unless_bad f ≡ Some g → f ≡ g
 good_form (Bare s) g is = cc
 good_form (WithToken s t) g is = cc
 good_form (WithParam s p) g is = cc
 good_form (Parameter p) g is = cc
 good_form Bad g is = absurd (cc)
 
-no_form : (f : Form) (text : List ℕ) → None ≡ sized (unless_bad f) text → f ≡ Bad
+pub no_form : (f : Form) (text : List ℕ) → None ≡ sized (unless_bad f) text → f ≡ Bad
 no_form (Bare s) text is = absurd (cc)
 no_form (WithToken s t) text is = absurd (cc)
 no_form (WithParam s p) text is = absurd (cc)
@@ -123,7 +124,7 @@ pub record Sees (r : Reading) (blank : ℕ) (text : List ℕ) (next : Next) : Ty
   pub next_is : next ≡ next_of r (front (drop blank text)) (piece_len Outside (drop blank text))
 
 -- the step over both
-seen : (r : Reading) (blank len : ℕ) (text : List ℕ) (next : Next) → Sees r blank text next
+pub seen : (r : Reading) (blank len : ℕ) (text : List ℕ) (next : Next) → Sees r blank text next
     → len ≡ piece_len Outside (drop blank text) → Knows r blank len text (front (drop blank text)) next
 seen r blank len text next sees is =
     let b = behind text blank sees.blanks in

@@ -7,9 +7,10 @@ use Rattle.std.proofs.lemmas.List.Folds.{list_all-append}
 use Rattle.std.proofs.Math.Seq.{take-append_seam, drop-append_seam}
 use Rattle.auth_text.specs.Text.{is_token_byte, folded}
 use Rattle.auth_text.specs.Quoted.{closing, if_closed}
+use Rattle.field_lists.specs.Blanks.{is_blank, trim_start}
 use Rattle.challenge_tokens.specs.declared.piece.Quoting.TheVariants.{Outside}
 use Rattle.challenge_tokens.specs.declared.piece.Form.TheVariants.{Bare, WithToken, WithParam, Parameter}
-use Rattle.challenge_tokens.specs.Forms.{is_blank, trim_start, token_len, is_token, is_token68_byte, is_token68, value_of, value_behind, named, param_of, or_param, argument_form, head_form, form_of}
+use Rattle.challenge_tokens.specs.Forms.{token_len, is_token, is_token68_byte, is_token68, value_of, value_behind, named, param_of, or_param, argument_form, head_form, form_of}
 use Rattle.challenge_tokens.specs.Spelling.{SpelledByte, SpelledValue, as_token, as_quoted, SpelledParam, byte_text, value_text, param_text, spaces_then, value_meant, param_meant, is_right_byte, is_right_value, is_right_param, are_blanks}
 use Rattle.challenge_tokens.proofs.NameLemmas.{both, not_true}
 use Rattle.challenge_tokens.proofs.EdgeLemmas.{IsClosed, IsTrimmed, passes-append, is_plain, closed_plain, closed_quoted, is_other, all_of, is_solid, token_plain, token_solid, blank_plain, trim_start-blanks, trim_start-solid, trimmed_solid, trimmed-append, trimmed_quoted, cons_some}

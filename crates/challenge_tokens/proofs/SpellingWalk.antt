@@ -3,13 +3,14 @@ use Rattle.std.proofs.Common.{◌≡◌, ℕ, ◌+◌, nat_lt, true, false, List
 use Rattle.std.proofs.lemmas.List.{append-nil}
 use Rattle.std.proofs.lemmas.List.Folds.{list_all-append}
 use Rattle.std.proofs.Math.Seq.{take-append_seam, drop-append_seam}
+use Rattle.field_lists.specs.Blanks.{is_blank, trim_start, trim_end}
 use Rattle.challenge_tokens.specs.declared.challenge.Challenge.{Challenge}
 use Rattle.challenge_tokens.specs.declared.piece.Quoting.TheVariants.{Outside}
 use Rattle.challenge_tokens.specs.declared.piece.Form.{Form}
 use Rattle.challenge_tokens.specs.declared.field.Reading.{Reading}
 use Rattle.challenge_tokens.specs.declared.field.Next.TheVariants.{Goes}
-use Rattle.challenge_tokens.specs.Forms.{is_blank, trim_start, form_of}
-use Rattle.challenge_tokens.specs.Pieces.{forms_from, trim_end}
+use Rattle.challenge_tokens.specs.Forms.{form_of}
+use Rattle.challenge_tokens.specs.Pieces.{forms_from}
 use Rattle.challenge_tokens.specs.Cutting.{piece_len}
 use Rattle.challenge_tokens.specs.Reading.{is_refused, so_far, with_form, resume, next_of}
 use Rattle.challenge_tokens.specs.Spelling.{are_blanks}

@@ -1,13 +1,14 @@
 -- One piece of the reading.
 use Rattle.std.proofs.Common.{◌≡◌, ℕ, suc, ◌+◌, ◌<◌, ◌≤◌, Bool, true, false, cond, List, [], ◌∷◌, Some, None, length, take, drop, refl, sym, ap, ◌∙◌, arith, drop-cons}
 use Rattle.std.specs.List.{prefix_len}
+use Rattle.field_lists.specs.Blanks.{is_blank, trim_end}
 use Rattle.challenge_tokens.specs.declared.challenge.FieldRead.{FieldRead}
 use Rattle.challenge_tokens.specs.declared.field.Reading.{Reading}
 use Rattle.challenge_tokens.specs.declared.field.Next.{Next}
 use Rattle.challenge_tokens.specs.declared.field.Next.TheVariants.{Goes, Refused}
 use Rattle.challenge_tokens.specs.declared.piece.Quoting.TheVariants.{Outside}
-use Rattle.challenge_tokens.specs.Forms.{form_of, is_blank}
-use Rattle.challenge_tokens.specs.Pieces.{Piece, Formed, formed, forms_from, is_piece, trim_end, field_read}
+use Rattle.challenge_tokens.specs.Forms.{form_of}
+use Rattle.challenge_tokens.specs.Pieces.{Piece, Formed, formed, forms_from, is_piece, field_read}
 use Rattle.challenge_tokens.specs.Cutting.{piece_len}
 use Rattle.challenge_tokens.specs.Reading.{resume, so_far, is_refused, with_form, next_of, start}
 use Rattle.std.proofs.Math.ListN.{drop_of_length-le}
@@ -38,10 +39,10 @@ step r at n len text is =
     ap (resume r) (forms_step at n text is)
     ∙ by_piece r (piece_at at n text) len (forms_behind (at + n) (drop n text)) (is_piece (piece_at at n text))
 
-nothing_behind : (at n : ℕ) (text : List ℕ) → length text ≤ n → forms_behind (at + n) (drop n text) ≡ []
+pub nothing_behind : (at n : ℕ) (text : List ℕ) → length text ≤ n → forms_behind (at + n) (drop n text) ≡ []
 nothing_behind at n text all = ap (forms_behind (at + n)) (drop_of_length-le text all)
 
-more_behind : (at n : ℕ) (text : List ℕ) → n < length text
+pub more_behind : (at n : ℕ) (text : List ℕ) → n < length text
     → forms_behind (at + n) (drop n text) ≡ forms_from (at + (n + 1)) (drop (n + 1) text)
 more_behind at n text some =
     let place : at + n + 1 ≡ at + suc n = omega arith in

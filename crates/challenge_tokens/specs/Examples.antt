@@ -4,6 +4,7 @@ use Rattle.challenge_tokens.specs.declared.params.Param.{Param}
 use Rattle.challenge_tokens.specs.declared.challenge.FieldRead.{FieldRead}
 use Rattle.challenge_tokens.specs.declared.challenge.Body.TheVariants.{Bare, Token68, Params}
 use Rattle.challenge_tokens.specs.Pieces.{field_read}
+use Rattle.challenge_tokens.specs.Infos.{info_read}
 
 -- a parameter
 abbrev pub pair : List ℕ → List ℕ → Param
@@ -39,6 +40,10 @@ stray = record {
   bad_at = Some 21;
 }
 
+-- two parameters of an info, with an empty piece between them
+abbrev pub next_nonce : List Param
+next_nonce = pair (codes "nextnonce") (codes "n") ∷ pair (codes "qop") (codes "auth") ∷ []
+
 -- the fields, each with what it gives
 pub record Examples : Type 0 where
   pub several : field_read (codes "Negotiate, Basic realm=\"a, b\", Digest nonce=x") ≡ three
@@ -46,3 +51,5 @@ pub record Examples : Type 0 where
   pub empty : field_read [] ≡ record { challenges = []; bad_at = None }
   pub unclosed_quote : field_read (codes "Digest nonce=n, Basic realm=\"x") ≡ unclosed
   pub behind_a_token : field_read (codes ",, ,Negotiate YIIB==,foo=1") ≡ stray
+  pub info : info_read (codes "nextnonce=\"n\", , qop=auth") ≡ next_nonce
+  pub info_behind_a_head : info_read (codes "Digest x=1, nextnonce=n") ≡ []

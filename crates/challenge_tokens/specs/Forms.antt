@@ -5,7 +5,7 @@ use Rattle.std.specs.Char.{is_ascii_alphanumeric}
 use Rattle.auth_text.specs.Text.{is_token_byte, folded}
 use Rattle.auth_text.specs.declared.quoted.QuoteFault.{QuoteFault}
 use Rattle.auth_text.specs.Quoted.{quoted}
-use Rattle.field_lists.specs.Blanks as blanks
+use Rattle.field_lists.specs.Blanks.{trim_start}
 use Rattle.challenge_tokens.specs.Names.{is_lower}
 use Rattle.challenge_tokens.specs.declared.params.Param.{Param}
 use Rattle.challenge_tokens.specs.declared.piece.Form.{Form}
@@ -25,16 +25,6 @@ after_byte Escaped b = Inside
 abbrev pub whole : ℕ → Result (List ℕ × ℕ) QuoteFault → Option (List ℕ)
 whole n (Ok x) = if x.1 == n then Some x.0 else None
 whole n (Err e) = None
-
--- ---- blanks
-
--- SP or HTAB
-abbrev pub is_blank : ℕ → Bool
-is_blank b = blanks.is_blank b
-
--- without the blanks at the front
-abbrev pub trim_start : List ℕ → List ℕ
-trim_start bytes = drop (prefix_len is_blank bytes) bytes
 
 -- ---- tokens
 

@@ -1,6 +1,7 @@
 -- The first piece of a text, and what is read of it.
 use Rattle.std.specs.Prelude.{ℕ, Bool, true, false, ◌&&◌, ◌==◌, List, [], ◌∷◌, take, Option, Some, None, option_map, ◌+◌, Result, Ok, Err, if◌then◌else◌}
 use Rattle.auth_text.specs.Text.{is_token_byte}
+use Rattle.field_lists.specs.Blanks.{trim_start, trim_end}
 use Rattle.challenge_tokens.specs.declared.piece.Quoting.TheVariants.{Outside}
 use Rattle.auth_text.specs.declared.quoted.QuoteFault.{QuoteFault}
 use Rattle.challenge_tokens.specs.declared.piece.Form.{Form}
@@ -9,8 +10,7 @@ use Rattle.challenge_tokens.specs.declared.field.Reading.{Reading}
 use Rattle.challenge_tokens.specs.declared.field.Next.{Next}
 use Rattle.challenge_tokens.specs.declared.field.Next.TheVariants.{Goes, Refused}
 use Rattle.challenge_tokens.specs.Reading.{is_refused, with_form}
-use Rattle.challenge_tokens.specs.Forms.{is_token68_byte, trim_start, value_of, value_behind, or_param, head_form}
-use Rattle.challenge_tokens.specs.Pieces.{trim_end}
+use Rattle.challenge_tokens.specs.Forms.{is_token68_byte, value_of, value_behind, or_param, head_form}
 use Rattle.challenge_tokens.specs.Cutting.{piece_len}
 
 -- the first piece, without the blanks at its end

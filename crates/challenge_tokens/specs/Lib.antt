@@ -3,6 +3,9 @@ pub mod Cutting
 pub mod Examples
 pub mod Forms
 pub mod Front
+pub mod Gathering
+pub mod Indexes
+pub mod Infos
 pub mod Names
 pub mod Pieces
 pub mod Reading

@@ -1,6 +1,7 @@
 -- The piece rule: what a list of challenges gives (after RFC 7235, section 2.1).
 use Rattle.std.specs.Prelude.{ℕ, ◌+◌, Bool, true, false, not, ◌&&◌, ◌==◌, nat_lt, List, [], ◌∷◌, ◌++◌, length, map, filter, Option, Some, None, if◌then◌else◌}
 use Rattle.std.specs.List.{prefix_len}
+use Rattle.field_lists.specs.Blanks.{is_blank, trim_start, trim_end}
 use Rattle.challenge_tokens.specs.declared.challenge.Challenge.{Challenge}
 use Rattle.challenge_tokens.specs.declared.params.Param.{Param}
 use Rattle.challenge_tokens.specs.declared.challenge.FieldRead.{FieldRead}
@@ -11,7 +12,7 @@ use Rattle.challenge_tokens.specs.declared.piece.Form.TheVariants.{Bare, WithTok
 use Rattle.challenge_tokens.specs.declared.piece.Quoting.{Quoting}
 use Rattle.challenge_tokens.specs.declared.piece.Quoting.TheVariants.{Outside, Inside, Escaped}
 use Rattle.challenge_tokens.specs.Names.{has_name}
-use Rattle.challenge_tokens.specs.Forms.{after_byte, is_blank, trim_start, form_of}
+use Rattle.challenge_tokens.specs.Forms.{after_byte, form_of}
 
 -- ---- the cut at the commas outside quoted strings
 
@@ -39,16 +40,6 @@ cut q at (b ∷ bytes) =
     else before_first at b (cut (after_byte q b) (at + 1) bytes)
 
 -- ---- without SP and HTAB at both ends, and with none empty
-
--- a byte before what is kept behind it; a blank with nothing kept behind it goes
-abbrev pub keep_unless_blank : ℕ → List ℕ → List ℕ
-keep_unless_blank b [] = if is_blank b then [] else b ∷ []
-keep_unless_blank b (c ∷ bytes) = b ∷ c ∷ bytes
-
--- without the blanks at the end
-abbrev pub trim_end : List ℕ → List ℕ
-trim_end [] = []
-trim_end (b ∷ bytes) = keep_unless_blank b (trim_end bytes)
 
 -- a piece without the blanks at both ends, and the place of its first byte
 abbrev pub trimmed : Piece → Piece

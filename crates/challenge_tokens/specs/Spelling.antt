@@ -3,12 +3,13 @@
 use Rattle.std.specs.Prelude.{ℕ, Bool, true, not, ◌&&◌, ◌||◌, ◌==◌, List, [], ◌∷◌, ◌++◌, map, replicate, option_to_list, Option, Some, None, if◌then◌else◌}
 use Rattle.std.specs.List.{list_all, flat_map}
 use Rattle.auth_text.specs.Text.{folded}
+use Rattle.field_lists.specs.Blanks.{is_blank}
 use Rattle.challenge_tokens.specs.declared.challenge.Challenge.{Challenge}
 use Rattle.challenge_tokens.specs.declared.challenge.Body.{Body}
 use Rattle.challenge_tokens.specs.declared.challenge.Body.TheVariants.{Bare, Token68, Params}
 use Rattle.challenge_tokens.specs.declared.params.Param.{Param}
 use Rattle.challenge_tokens.specs.Names.{are_params}
-use Rattle.challenge_tokens.specs.Forms.{is_blank, is_token, is_token68}
+use Rattle.challenge_tokens.specs.Forms.{is_token, is_token68}
 
 -- ---- the choices
 

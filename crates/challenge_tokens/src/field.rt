@@ -1,19 +1,20 @@
 //! The reading of a whole field, piece by piece from the left, up to its end or its first bad piece.
 
-ghost use Rattle.std.specs.Prelude.{◌≡◌, [], ◌∷◌, IsTrue, IfOk};
+ghost use Rattle.std.specs.Prelude.{◌≡◌, IsTrue, IfOk};
 ghost use Rattle.challenge_tokens.specs.Names.{is_lower};
 ghost use Rattle.challenge_tokens.specs.Forms.{is_lower_form};
-ghost use Rattle.challenge_tokens.specs.Pieces.{field_read, extend, join};
+ghost use Rattle.challenge_tokens.specs.Pieces.{field_read};
 ghost use Rattle.challenge_tokens.specs.Cutting.{piece_len as first_len};
 ghost use Rattle.challenge_tokens.specs.Front.{front, next_by};
 ghost use Rattle.challenge_tokens.specs.Reading as spec;
 
-use crate::challenge::{Body, Challenge, Challenges, FieldRead};
+use crate::begun::Begun;
+use crate::challenge::{Challenges, FieldRead};
 use crate::head::form;
-use crate::params::{Param, Params};
+use crate::params::Param;
 use crate::piece::{Form, Quoting};
-use crate::scan::{blank_piece, rest_of};
-use auth_text::NoMemory;
+use crate::scan::blank_piece;
+use auth_text::{NoMemory, rest_of};
 use field_lists::blank_len;
 use std::alloc::Global;
 
@@ -21,15 +22,15 @@ use std::alloc::Global;
 #[derive(Drop)]
 pub struct Reading {
     pub done: Challenges,
-    pub current: Option<Challenge>,
+    pub current: Option<Begun>,
 }
 
-fn takes(current: &Option<Challenge>) -> bool
+fn takes(current: &Option<Begun>) -> bool
     ensures { result ≡ spec.takes current.now }
 {
     match current {
         None => false,
-        Some(challenge) => !matches!(&challenge.body, Body::Token68(_)),
+        Some(begun) => begun.takes_params(),
     }
 }
 
@@ -47,62 +48,29 @@ fn finished(reading: Reading) -> Result<Challenges, NoMemory>
     ensures { IfOk result (λ challenges. challenges ≡ spec.so_far reading) }
 {
     let Reading { mut done, current } = reading;
-    if let Some(challenge) = current {
-        done.push(challenge)?;
+    if let Some(begun) = current {
+        done.push(begun.into_challenge())?;
     }
     Ok(done)
 }
 
-fn with_challenge(reading: Reading, challenge: Challenge) -> Result<Reading, NoMemory>
-    ensures { IfOk result (λ next. next ≡ spec.with_challenge reading challenge) }
+fn with_challenge(reading: Reading, begun: Begun) -> Result<Reading, NoMemory>
+    ensures { IfOk result (λ next. next ≡ spec.with_challenge reading begun) }
 {
     let done = finished(reading)?;
     Ok(Reading {
         done,
-        current: Some(challenge),
+        current: Some(begun),
     })
 }
 
-fn join_param(params: Params, param: Param) -> Result<Params, NoMemory>
-    requires { IsTrue (is_lower param.name) }
-    ensures { IfOk result (λ more. more ≡ join params param) }
-{
-    let mut params = params;
-    if params.has(param.name.as_slice()) {
-        return Ok(params);
-    }
-    params.push(param)?;
-    Ok(params)
-}
-
-fn extended(alloc: Global, body: Body, param: Param) -> Result<Body, NoMemory>
-    requires { IsTrue (is_lower param.name) }
-    ensures { IfOk result (λ next. next ≡ extend body (param ∷ [])) }
-{
-    match body {
-        Body::Bare => Ok(Body::Params(join_param(Params::new(alloc), param)?)),
-        Body::Params(params) => Ok(Body::Params(join_param(params, param)?)),
-        Body::Token68(token) => Ok(Body::Token68(token)),
-    }
-}
-
-fn joined(
-    alloc: Global,
-    current: Option<Challenge>,
-    param: Param,
-) -> Result<Option<Challenge>, NoMemory>
+fn joined(alloc: Global, current: Option<Begun>, param: Param) -> Result<Option<Begun>, NoMemory>
     requires { IsTrue (is_lower param.name) }
     ensures { IfOk result (λ next. next ≡ spec.joined current param) }
 {
     match current {
         None => Ok(None),
-        Some(challenge) => {
-            let Challenge { scheme, body } = challenge;
-            Ok(Some(Challenge {
-                scheme,
-                body: extended(alloc, body, param)?,
-            }))
-        }
+        Some(begun) => Ok(Some(begun.with(alloc, param)?)),
     }
 }
 
@@ -111,25 +79,11 @@ fn with_form(alloc: Global, reading: Reading, form: Form) -> Result<Reading, NoM
     ensures { IfOk result (λ next. next ≡ spec.with_form reading form) }
 {
     match form {
-        Form::Bare(scheme) => with_challenge(
-            reading,
-            Challenge {
-                scheme,
-                body: Body::Bare,
-            },
-        ),
-        Form::WithToken(scheme, token) => {
-            with_challenge(
-                reading,
-                Challenge {
-                    scheme,
-                    body: Body::Token68(token),
-                },
-            )
-        }
+        Form::Bare(scheme) => with_challenge(reading, Begun::bare(scheme)),
+        Form::WithToken(scheme, token) => with_challenge(reading, Begun::with_token(scheme, token)),
         Form::WithParam(scheme, param) => {
-            let body = extended(alloc, Body::Bare, param)?;
-            with_challenge(reading, Challenge { scheme, body })
+            let begun = Begun::bare(scheme).with(alloc, param)?;
+            with_challenge(reading, begun)
         }
         Form::Parameter(param) => {
             let Reading { done, current } = reading;

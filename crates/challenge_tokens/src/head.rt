@@ -9,8 +9,8 @@ ghost use Rattle.challenge_tokens.specs.Front as spec;
 
 use crate::params::Param;
 use crate::piece::{Form, common_len, equals_len, space_len, token_len, token68_len};
-use crate::scan::{blank_piece, front_of, is_over, rest_of, starts, value, value_behind};
-use auth_text::{Bytes, NoMemory, fold};
+use crate::scan::{blank_piece, is_over, starts, value, value_behind};
+use auth_text::{Bytes, NoMemory, fold, front_of, rest_of};
 use field_lists::blank_len;
 use std::alloc::Global;
 

@@ -3,9 +3,12 @@
 //! between parameters, so it is read by one rule on its pieces that has an answer for any bytes.
 #![tactic(auto)]
 
+mod begun;
 mod challenge;
 mod field;
+mod gathering;
 mod head;
+mod info;
 mod laws;
 mod params;
 mod piece;
@@ -14,9 +17,7 @@ mod write;
 
 pub use challenge::{Body, Challenge, Challenges, FieldRead};
 pub use field::read_field;
+pub use info::read_info;
 pub use laws::{challenge_reads_back, example_fields, spellings_are_read, token68_reads_back};
 pub use params::{Param, Params};
 pub use write::{write_challenge, write_token68};
-
-#[cfg(test)]
-mod tests;

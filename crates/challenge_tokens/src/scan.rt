@@ -8,25 +8,9 @@ ghost use Rattle.challenge_tokens.specs.Front.{front, sized};
 ghost use Rattle.challenge_tokens.specs.Front as spec;
 
 use crate::piece::token_len;
-use auth_text::{Bytes, NoMemory, QuoteFault, read_quoted};
+use auth_text::{Bytes, NoMemory, QuoteFault, front_of, read_quoted, rest_of};
 use field_lists::blank_len;
 use std::alloc::Global;
-
-/// The first bytes of a text.
-pub fn front_of(text: &[u8], n: usize) -> &[u8]
-    requires { n ≤ length text.now }
-    ensures { result.now ≡ take n text.now }
-{
-    &text[..n]
-}
-
-/// The bytes behind those.
-pub fn rest_of(text: &[u8], n: usize) -> &[u8]
-    requires { n ≤ length text.now }
-    ensures { result.now ≡ drop n text.now }
-{
-    &text[n..]
-}
 
 /// A comma or the end stands in front.
 pub fn is_over(text: &[u8]) -> bool

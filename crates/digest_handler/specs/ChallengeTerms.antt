@@ -53,6 +53,7 @@ terms_with c nonce algorithm qop = record {
     nonce = nonce;
     opaque = value_in (codes "opaque") c.body;
     qop = qop;
+    userhash = is_true (value_in (codes "userhash") c.body);
   };
   stale = is_true (value_in (codes "stale") c.body);
 }

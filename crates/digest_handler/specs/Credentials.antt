@@ -7,16 +7,12 @@ use Rattle.hex.specs.Hex.{encode_lower}
 use Rattle.auth_text.specs.Login.{Login}
 use Rattle.auth_text.specs.Quoted.{quoted_text}
 use Rattle.spaces.specs.declared.roster.Method.{Method}
-use Rattle.spaces.specs.declared.roster.Method.TheVariants.{Get, Head}
 use Rattle.spaces.specs.declared.terms.Algorithm.{Algorithm}
 use Rattle.spaces.specs.declared.terms.Algorithm.TheVariants.{Md5, Sha256}
 use Rattle.spaces.specs.declared.terms.Qop.{Qop}
 use Rattle.spaces.specs.declared.terms.Qop.TheVariants.{Auth, Missing}
 use Rattle.spaces.specs.declared.terms.Terms.{Terms}
-
-abbrev pub method_name : Method → List ℕ
-method_name Get = codes "GET"
-method_name Head = codes "HEAD"
+use Rattle.spaces.specs.RequestTargets.{method_name}
 
 abbrev pub algorithm_name : Algorithm → List ℕ
 algorithm_name Md5 = codes "MD5"
@@ -56,9 +52,19 @@ response terms login method uri count cnonce =
     let a2 = hex_hash terms.algorithm (request_text method uri) in
     hex_hash terms.algorithm (last_text terms.qop terms.nonce a1 a2 count cnonce)
 
+-- the user name that is sent: the one given, or H(user ":" realm) where the terms have userhash
+abbrev pub sent_user : Terms → List ℕ → List ℕ
+sent_user terms user = if terms.userhash then hex_hash terms.algorithm (user ++ 58 ∷ terms.realm) else user
+
 -- name="value"
 abbrev pub named : List ℕ → List ℕ → List ℕ
 named name value = name ++ codes "=" ++ quoted_text value
+
+-- user name, realm, nonce and uri
+unfoldable pub first_fields : Terms → List ℕ → List ℕ → List ℕ
+first_fields terms user uri =
+    named (codes "username") (sent_user terms user) ++ codes ", " ++ named (codes "realm") terms.realm
+    ++ codes ", " ++ named (codes "nonce") terms.nonce ++ codes ", " ++ named (codes "uri") uri
 
 -- the algorithm, where the challenge said it
 abbrev pub algorithm_field : Bool → Algorithm → List ℕ
@@ -74,11 +80,14 @@ abbrev pub qop_fields : Qop → ℕ → List ℕ → List ℕ
 qop_fields Missing count cnonce = []
 qop_fields Auth count cnonce = codes ", qop=auth, nc=" ++ count_text count ++ codes ", " ++ named (codes "cnonce") cnonce
 
+-- userhash=true, where the terms have it
+abbrev pub userhash_field : Bool → List ℕ
+userhash_field userhash = if userhash then codes ", userhash=true" else []
+
 -- the value of the field Authorization or Proxy-Authorization
 abbrev pub digest_credentials : Terms → Login → Method → List ℕ → ℕ → List ℕ → List ℕ
 digest_credentials terms login method uri count cnonce =
-    codes "Digest " ++ named (codes "username") login.user ++ codes ", " ++ named (codes "realm") terms.realm
-    ++ codes ", " ++ named (codes "nonce") terms.nonce ++ codes ", " ++ named (codes "uri") uri
+    codes "Digest " ++ first_fields terms login.user uri
     ++ algorithm_field terms.said terms.algorithm ++ codes ", "
     ++ named (codes "response") (response terms login method uri count cnonce)
-    ++ opaque_field terms.opaque ++ qop_fields terms.qop count cnonce
+    ++ opaque_field terms.opaque ++ qop_fields terms.qop count cnonce ++ userhash_field terms.userhash

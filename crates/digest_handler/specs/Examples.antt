@@ -22,6 +22,7 @@ terms_2617 qop = record {
   nonce = codes "dcd98b7102dd2f0e8b11d0f600bfb0c093";
   opaque = Some (codes "5ccc069c403ebaf9f0171e9517f40e41");
   qop = qop;
+  userhash = false;
 }
 
 abbrev pub text_2617 : List ℕ
@@ -41,10 +42,19 @@ terms_7616 algorithm = record {
   nonce = codes "7ypf/xlj9XXwfDPEoM4URrv/xwf94BcCAzFZH4GiTo0v";
   opaque = Some (codes "FQhe/qaU925kfnzjCev0ciny7QMkPqMAFRtzCUYo5tdS");
   qop = Auth;
+  userhash = false;
 }
 
 abbrev pub cnonce_7616 : List ℕ
 cnonce_7616 = codes "f2/wE4q74E6zIJEtWaHKaf5wv/H5QzzpXusqGemxURZJ"
+
+-- terms that ask for the hashed user name
+abbrev pub with_userhash : Terms → Terms
+with_userhash terms = record terms { userhash = true }
+
+-- the credentials of the example with SHA-256, where the challenge has userhash too
+abbrev pub text_with_userhash : List ℕ
+text_with_userhash = codes "Digest username=\"a947aad205e80e429958a387394944c6b496301e79f89d35a4cc23b6ee12b5b6\", realm=\"http-auth@example.org\", nonce=\"7ypf/xlj9XXwfDPEoM4URrv/xwf94BcCAzFZH4GiTo0v\", uri=\"/dir/index.html\", algorithm=SHA-256, response=\"753927fa0e85d155564e2e272a28d1802ca10daf4496794697cf8db5856cb6c1\", opaque=\"FQhe/qaU925kfnzjCev0ciny7QMkPqMAFRtzCUYo5tdS\", qop=auth, nc=00000001, cnonce=\"f2/wE4q74E6zIJEtWaHKaf5wv/H5QzzpXusqGemxURZJ\", userhash=true"
 
 -- the field with the challenge
 abbrev pub field_2617 : List ℕ

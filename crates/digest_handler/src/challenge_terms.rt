@@ -138,6 +138,7 @@ fn terms_with(
         nonce: Bytes::from_slice(alloc, nonce)?,
         opaque: copied(alloc, challenge.param(b"opaque"))?,
         qop,
+        userhash: is_true(challenge.param(b"userhash")),
     };
     Ok(TermsRead {
         terms,
@@ -147,7 +148,7 @@ fn terms_with(
 
 /// The terms that a Digest challenge asks for (RFC 7616 section 3.3), or the first reason to pass it
 /// over. Without `algorithm` it is MD5. A `qop` that names nothing counts as missing, as RFC 2617 has
-/// it; `realm` may be missing and is then empty.
+/// it; `realm` may be missing and is then empty. A `userhash` other than `true` counts for none.
 pub fn terms_of(alloc: Global, challenge: &Challenge) -> Result<TermsRead, Passed>
     requires { challenge.now.scheme ≡ codes "digest" }
     ensures { GivesBy Passed.NoMemory (λ read. read) result (spec.terms_read challenge.now) }

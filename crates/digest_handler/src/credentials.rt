@@ -1,22 +1,13 @@
 //! The credentials of a Digest request, written field by field. The response is made here and
 //! nowhere else, over the texts that the formulas name.
 
-ghost use Rattle.std.specs.Prelude.{◌≡◌, ◌++◌, codes, IfOk, OnOk};
+ghost use Rattle.std.specs.Prelude.{◌≡◌, ◌++◌, ◌∷◌, codes, IfOk, OnOk};
 ghost use Rattle.digest_handler.specs.Credentials as spec;
 
 use crate::hash::{AuthHash, Md5Hash, Sha256Hash, hex_bytes};
 use auth_text::{Bytes, Identity, NoMemory, push_quoted};
 use spaces::{Algorithm, Method, Qop, Terms};
 use std::alloc::Global;
-
-fn method_name(method: Method) -> &'static [u8]
-    ensures { result.now ≡ spec.method_name method }
-{
-    match method {
-        Method::Get => b"GET",
-        Method::Head => b"HEAD",
-    }
-}
 
 /// H of the formulas.
 fn hex_of(alloc: Global, algorithm: Algorithm, message: &[u8]) -> Result<Bytes, NoMemory>
@@ -54,6 +45,47 @@ fn push_named(out: &mut Bytes, name: &[u8], value: &[u8]) -> Result<(), NoMemory
     out.extend_from_slice(name)?;
     out.extend_from_slice(b"=")?;
     push_quoted(out, value)
+}
+
+/// H of user, colon, realm (RFC 7616 section 3.4.4).
+fn hashed_user(alloc: Global, terms: &Terms, user: &[u8]) -> Result<Bytes, NoMemory>
+    ensures { IfOk result (λ text. text ≡ spec.hex_hash terms.now.algorithm (user.now ++ 58 ∷ terms.now.realm)) }
+{
+    let mut text = Bytes::from_slice(alloc, user)?;
+    text.extend_from_slice(b":")?;
+    text.extend_from_slice(terms.realm.as_slice())?;
+    hex_of(alloc, terms.algorithm, text.as_slice())
+}
+
+/// Appends the user name, hashed where the terms ask for that.
+fn push_user(alloc: Global, out: &mut Bytes, terms: &Terms, user: &[u8]) -> Result<(), NoMemory>
+    ensures { OnOk result (out.new ≡ out.old ++ spec.named (codes "username") (spec.sent_user terms.now user.now)) }
+{
+    if !terms.userhash {
+        return push_named(out, b"username", user);
+    }
+    let hash = hashed_user(alloc, terms, user)?;
+    push_named(out, b"username", hash.as_slice())
+}
+
+/// Appends the user name, the realm, the nonce and the uri.
+#[tactic(auto, unfolding(crate::specs::Credentials::first_fields))]
+fn push_first(
+    alloc: Global,
+    out: &mut Bytes,
+    terms: &Terms,
+    user: &[u8],
+    uri: &[u8],
+) -> Result<(), NoMemory>
+    ensures { OnOk result (out.new ≡ out.old ++ spec.first_fields terms.now user.now uri.now) }
+{
+    push_user(alloc, out, terms, user)?;
+    out.extend_from_slice(b", ")?;
+    push_named(out, b"realm", terms.realm.as_slice())?;
+    out.extend_from_slice(b", ")?;
+    push_named(out, b"nonce", terms.nonce.as_slice())?;
+    out.extend_from_slice(b", ")?;
+    push_named(out, b"uri", uri)
 }
 
 fn algorithm_name(algorithm: Algorithm) -> &'static [u8]
@@ -121,6 +153,16 @@ fn push_qop(
     }
 }
 
+fn push_userhash(out: &mut Bytes, userhash: bool) -> Result<(), NoMemory>
+    ensures { OnOk result (out.new ≡ out.old ++ spec.userhash_field userhash) }
+{
+    if userhash {
+        out.extend_from_slice(b", userhash=true")
+    } else {
+        Ok(())
+    }
+}
+
 /// What is hashed last.
 fn last_text(
     alloc: Global,
@@ -150,7 +192,7 @@ fn last_text(
 fn request_text(alloc: Global, method: Method, uri: &[u8]) -> Result<Bytes, NoMemory>
     ensures { IfOk result (λ text. text ≡ spec.request_text method uri.now) }
 {
-    let mut text = Bytes::from_slice(alloc, method_name(method))?;
+    let mut text = Bytes::from_slice(alloc, method.name())?;
     text.extend_from_slice(b":")?;
     text.extend_from_slice(uri)?;
     Ok(text)
@@ -184,7 +226,8 @@ fn response_of(
 
 /// The value of `Authorization` or `Proxy-Authorization` that answers a Digest challenge of these
 /// terms (RFC 7616 section 3.4). `uri` is the request target as it is sent. The count, which is sent
-/// in eight digits, and the client's nonce play no part where the terms have no qop.
+/// in eight digits, and the client's nonce play no part where the terms have no qop. The user name is
+/// sent hashed where the terms have `userhash` (section 3.4.4); the response is made of the one given.
 pub fn respond(
     alloc: Global,
     terms: &Terms,
@@ -198,17 +241,12 @@ pub fn respond(
 {
     let response = response_of(alloc, terms, identity, method, uri, count, cnonce)?;
     let mut text = Bytes::from_slice(alloc, b"Digest ")?;
-    push_named(&mut text, b"username", identity.user())?;
-    text.extend_from_slice(b", ")?;
-    push_named(&mut text, b"realm", terms.realm.as_slice())?;
-    text.extend_from_slice(b", ")?;
-    push_named(&mut text, b"nonce", terms.nonce.as_slice())?;
-    text.extend_from_slice(b", ")?;
-    push_named(&mut text, b"uri", uri)?;
+    push_first(alloc, &mut text, terms, identity.user(), uri)?;
     push_algorithm(&mut text, terms.said, terms.algorithm)?;
     text.extend_from_slice(b", ")?;
     push_named(&mut text, b"response", response.as_slice())?;
     push_opaque(&mut text, &terms.opaque)?;
     push_qop(alloc, &mut text, terms.qop, count, cnonce)?;
+    push_userhash(&mut text, terms.userhash)?;
     Ok(text)
 }

@@ -1,18 +1,19 @@
 -- The places in the streams of open links stay right as bytes are read and links are dialed.
-use Rattle.std.proofs.Common.{◌≡◌, ℕ, ◌+◌, Bool, true, false, not, ◌&&◌, ◌==◌, List, [], ◌∷◌, ◌++◌, length, map, refl, subst, ◌∙◌, ap, arith}
-use Rattle.std.specs.Prelude.{filter, if◌then◌else◌}
+use Rattle.std.proofs.Common.{◌≡◌, ℕ, ◌+◌, Bool, true, false, not, ◌&&◌, ◌||◌, ◌==◌, List, [], ◌∷◌, ◌++◌, length, map, drop, refl, sym, subst, ◌∙◌, ap, arith, Ok, Err, OnOk, OnErr}
+use Rattle.std.specs.Prelude.{filter, nat_le, if◌then◌else◌}
 use Rattle.std.specs.List.{list_all}
 use Rattle.std.proofs.lemmas.Grind.{common_steps, flat_map-append}
 use Rattle.std.proofs.lemmas.List.Folds.{list_all-append, list_any-append}
+use Rattle.std.specs.declared.result.Result.{Result}
 use Rattle.spaces.specs.declared.place.Origin.{Origin}
 use Rattle.link_trait.specs.declared.links.LinkName.{LinkName}
 use Rattle.link_trait.specs.declared.dialer.Dial.{Dial}
 use Rattle.link_trait.specs.declared.dialer.Traffic.{Traffic}
 use Rattle.link_trait.specs.declared.dialer.Traffic.TheVariants.{Sent, Received, Ended}
 use Rattle.link_trait.specs.declared.log.OpenLink.{OpenLink}
-use Rattle.link_trait.specs.Links.{same_link, has_link, has_dial, without_link, heard_in, heard_on}
+use Rattle.link_trait.specs.Links.{same_link, has_link, has_dial, has_ended, without_link, heard_in, heard_on, link_of, are_dialed, are_ended_last}
 use Rattle.link_trait.proofs.LinkLemmas.{same_name, same_self}
-use Rattle.link_trait.specs.Recorded.{link_of, are_dialed, is_placed, are_placed, names_of, place_in, moved, closed}
+use Rattle.link_trait.specs.Recorded.{LogState, is_placed, are_placed, names_of, place_in, moved, closed, is_read_out, are_read_out}
 
 pub and_front : (a b : Bool) → (a && b) ≡ true → a ≡ true
 and_front true b both = refl
@@ -177,3 +178,112 @@ found name [] dials traffic placed has = grind arith
 found name (link ∷ links) dials traffic placed has =
     found_if (same_link link.name name) name link links dials traffic refl (and_front (is_placed dials traffic link) _ placed)
     (found name links dials traffic (and_rest (is_placed dials traffic link) _ placed)) has
+
+-- a link's end
+
+or_right : (a b : Bool) → b ≡ true → (a || b) ≡ true
+or_right true b right = refl
+or_right false b right = right
+
+or_left : (a b : Bool) → a ≡ true → (a || b) ≡ true
+or_left true b left = refl
+or_left false b left = grind (arith, left)
+
+-- what adds no bytes of a link whose end was read leaves each end the last
+pub ended_last_event : (traffic : List Traffic) (event : Traffic)
+    → ((link : LinkName) → has_ended link traffic ≡ true → heard_in link event ≡ [])
+    → are_ended_last traffic ≡ true → are_ended_last (traffic ++ event ∷ []) ≡ true
+ended_last_event [] (Sent name bytes) none last = refl
+ended_last_event [] (Received name bytes) none last = refl
+ended_last_event [] (Ended name) none last = refl
+ended_last_event (Sent name bytes ∷ traffic) event none last = ended_last_event traffic event none last
+ended_last_event (Received name bytes ∷ traffic) event none last = ended_last_event traffic event none last
+ended_last_event (Ended name ∷ traffic) event none last =
+    let front : (length (heard_on name traffic) == 0) ≡ true = and_front (length (heard_on name traffic) == 0) (are_ended_last traffic) last in
+    let silent : heard_in name event ≡ [] = none name (or_left (same_link name name) (has_ended name traffic) (same_self name)) in
+    both (length (heard_on name (traffic ++ event ∷ [])) == 0) (are_ended_last (traffic ++ event ∷ []))
+    (rw (heard_more name traffic event, silent) (grind (arith, common_steps, front)))
+    (ended_last_event traffic event (λ link has. none link (or_right (same_link name link) (has_ended link traffic) has))
+    (and_rest (length (heard_on name traffic) == 0) (are_ended_last traffic) last))
+
+other_if : (b : Bool) (name link : LinkName) (bytes : List ℕ) (traffic : List Traffic)
+    → same_link name link ≡ b → has_ended name traffic ≡ false → has_ended link traffic ≡ true → heard_in link (Received name bytes) ≡ []
+other_if true name link bytes traffic same none has =
+    let ended : has_ended name traffic ≡ true = subst (λ (n : LinkName). has_ended n traffic ≡ true) (sym (same_name name link same)) has in
+    grind (arith, ended, none)
+other_if false name link bytes traffic same none has = rw same refl
+
+-- bytes of a link whose end wasn't read
+pub ended_last_received : (traffic : List Traffic) (name : LinkName) (bytes : List ℕ) → has_ended name traffic ≡ false
+    → are_ended_last traffic ≡ true → are_ended_last (traffic ++ Received name bytes ∷ []) ≡ true
+ended_last_received traffic name bytes none last =
+    ended_last_event traffic (Received name bytes) (λ link has. other_if (same_link name link) name link bytes traffic refl none has) last
+
+-- a stream that was read to its end
+
+more_read_out : (streams : LinkName → List ℕ) (traffic : List Traffic) (event other : Traffic)
+    → is_read_out streams traffic other ≡ true → is_read_out streams (traffic ++ event ∷ []) other ≡ true
+more_read_out streams traffic event (Sent name bytes) was = refl
+more_read_out streams traffic event (Received name bytes) was = refl
+more_read_out streams traffic event (Ended name) was = rw (heard_more name traffic event) (grind (arith, common_steps, was))
+
+pub read_out_event : (streams : LinkName → List ℕ) (traffic : List Traffic) (event : Traffic)
+    → is_read_out streams (traffic ++ event ∷ []) event ≡ true → are_read_out streams traffic ≡ true
+    → are_read_out streams (traffic ++ event ∷ []) ≡ true
+read_out_event streams traffic event is read_out =
+    rw list_all-append (both (list_all (is_read_out streams (traffic ++ event ∷ [])) traffic) (list_all (is_read_out streams (traffic ++ event ∷ [])) (event ∷ []))
+    (all_kept (is_read_out streams traffic) (is_read_out streams (traffic ++ event ∷ [])) traffic (λ other was. more_read_out streams traffic event other was) read_out)
+    (rw is refl))
+
+-- the end is read where nothing is left
+pub read_out_ended : (streams : LinkName → List ℕ) (traffic : List Traffic) (name : LinkName)
+    → drop (length (heard_on name traffic)) (streams name) ≡ [] → are_read_out streams traffic ≡ true
+    → are_read_out streams (traffic ++ Ended name ∷ []) ≡ true
+read_out_ended streams traffic name none read_out =
+    let short : length (drop (length (heard_on name traffic)) (streams name)) ≡ 0 = ap length none in
+    read_out_event streams traffic (Ended name) (rw (heard_more name traffic (Ended name)) (grind (arith, common_steps, short))) read_out
+
+ended_if : (b : Bool) (streams : LinkName → List ℕ) (traffic events : List Traffic) (name link : LinkName)
+    → same_link link name ≡ b → is_read_out streams traffic (Ended link) ≡ true
+    → (has_ended name events ≡ true → nat_le (length (streams name)) (length (heard_on name traffic)) ≡ true)
+    → (same_link link name || has_ended name events) ≡ true → nat_le (length (streams name)) (length (heard_on name traffic)) ≡ true
+ended_if true streams traffic events name link same is later has =
+    subst (λ (n : LinkName). nat_le (length (streams n)) (length (heard_on n traffic)) ≡ true) (same_name link name same) is
+ended_if false streams traffic events name link same is later has = later (rw same at has)
+
+ended_read_out : (streams : LinkName → List ℕ) (traffic events : List Traffic) (name : LinkName)
+    → list_all (is_read_out streams traffic) events ≡ true → has_ended name events ≡ true
+    → nat_le (length (streams name)) (length (heard_on name traffic)) ≡ true
+ended_read_out streams traffic [] name read_out has = grind (arith, has)
+ended_read_out streams traffic (Sent link bytes ∷ events) name read_out has = ended_read_out streams traffic events name read_out has
+ended_read_out streams traffic (Received link bytes ∷ events) name read_out has = ended_read_out streams traffic events name read_out has
+ended_read_out streams traffic (Ended link ∷ events) name read_out has =
+    ended_if (same_link link name) streams traffic events name link refl (and_front (is_read_out streams traffic (Ended link)) (list_all (is_read_out streams traffic) events) read_out)
+    (ended_read_out streams traffic events name (and_rest (is_read_out streams traffic (Ended link)) (list_all (is_read_out streams traffic) events) read_out)) has
+
+none_left_if : (b : Bool) (streams : LinkName → List ℕ) (traffic : List Traffic) (name : LinkName) → has_ended name traffic ≡ b
+    → are_read_out streams traffic ≡ true → (drop (length (heard_on name traffic)) (streams name) ≡ [] → ⊥) → b ≡ false
+none_left_if true streams traffic name has read_out left =
+    let long = ended_read_out streams traffic traffic name read_out has in
+    absurd (left (grind (arith, common_steps, long)))
+none_left_if false streams traffic name has read_out left = refl
+
+-- where something is left, the end wasn't read
+pub none_left : (streams : LinkName → List ℕ) (traffic : List Traffic) (name : LinkName)
+    → are_read_out streams traffic ≡ true → (drop (length (heard_on name traffic)) (streams name) ≡ [] → ⊥) → has_ended name traffic ≡ false
+none_left streams traffic name read_out left = none_left_if (has_ended name traffic) streams traffic name refl read_out left
+
+-- bytes that were written or read leave what was read out
+pub read_out_received : (streams : LinkName → List ℕ) (traffic : List Traffic) (name : LinkName) (bytes : List ℕ)
+    → are_read_out streams traffic ≡ true → are_read_out streams (traffic ++ Received name bytes ∷ []) ≡ true
+read_out_received streams traffic name bytes read_out = read_out_event streams traffic (Received name bytes) refl read_out
+
+pub read_out_sent : (streams : LinkName → List ℕ) (traffic : List Traffic) (name : LinkName) (bytes : List ℕ)
+    → are_read_out streams traffic ≡ true → are_read_out streams (traffic ++ Sent name bytes ∷ []) ≡ true
+read_out_sent streams traffic name bytes read_out = read_out_event streams traffic (Sent name bytes) refl read_out
+
+-- what holds before a step and behind it holds also where there was no memory
+pub still : {X E : Type 0} (P : LogState → Type 0) (result : Result X E) (old new more : LogState)
+    → OnOk result (new ≡ more) → OnErr result (new ≡ old) → P old → P more → P new
+still P (Ok x) old new more ok err before behind = subst P (sym ok) behind
+still P (Err e) old new more ok err before behind = subst P (sym err) before

@@ -6,8 +6,8 @@ use Rattle.std.specs.declared.option.Option.{Option}
 use Rattle.std.specs.declared.option.Option.TheVariants.{None}
 use Rattle.link_trait.specs.declared.steps.Step.{Step}
 use Rattle.link_trait.specs.declared.steps.Step.TheVariants.{NoMechanism, Failed, NoMemory}
-use Rattle.link_trait.specs.Tokens.{is_quiet, are_quiet, step_at}
-use Rattle.link_trait.proofs.LogLemmas.{and_front, and_rest}
+use Rattle.link_trait.specs.Tokens.{is_answered, are_answered, is_quiet, are_quiet, step_at}
+use Rattle.link_trait.proofs.LogLemmas.{and_front, and_rest, all_kept}
 
 quiet_place : (steps : List Step) (place : ℕ) → list_all is_quiet steps ≡ true → is_quiet (unwrap_or (slice_get steps place) NoMechanism) ≡ true
 quiet_place [] place quiet = refl
@@ -43,3 +43,12 @@ pub unanswered_quiet : (script : List (List Step)) (request place : ℕ) (step r
     → (result ≡ NoMemory) ⊎ (result ≡ step) → are_quiet script ≡ true → result ≢ Failed
 unanswered_quiet script request place step result next is quiet =
     not_failed result (quiet_result step result (rw next (quiet_step script request place quiet)) is)
+
+answered_step : (step : Step) → is_answered step ≡ true → is_quiet step ≡ true
+answered_step step answered = grind (arith, answered)
+
+-- a script of answers alone has no failure
+pub answered_quiet : (script : List (List Step)) → are_answered script ≡ true → are_quiet script ≡ true
+answered_quiet script answered =
+    all_kept (λ steps. list_all is_answered steps) (λ steps. list_all is_quiet steps) script
+    (λ steps each. all_kept is_answered is_quiet steps answered_step each) answered

@@ -1,7 +1,9 @@
 pub mod Faults
 pub mod Streams
 pub mod Told
+pub mod Repeated
 pub mod Prompts
+pub mod PrompterLaws
 pub mod Links
 pub mod Recorded
 pub mod Tokens

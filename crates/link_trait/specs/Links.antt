@@ -1,6 +1,6 @@
 -- Links of a dialer: what was dialed, which are open, and what went over them.
-use Rattle.std.specs.Prelude.{ℕ, ◌≡◌, ◌⊎◌, Bool, false, not, ◌&&◌, ◌==◌, List, [], ◌∷◌, take, drop, length, filter, Some, None, unwrap_or, option_and_then, if◌then◌else◌}
-use Rattle.std.specs.List.{list_any, flat_map}
+use Rattle.std.specs.Prelude.{ℕ, ◌≡◌, ◌⊎◌, Bool, false, not, ◌&&◌, ◌==◌, true, List, [], ◌∷◌, take, drop, length, filter, Some, None, unwrap_or, option_and_then, if◌then◌else◌}
+use Rattle.std.specs.List.{list_all, list_any, flat_map}
 use Rattle.std.specs.declared.option.Option.{Option}
 use Rattle.spaces.specs.declared.place.Origin.{Origin}
 use Rattle.spaces.specs.Sites.{numbered}
@@ -31,6 +31,22 @@ without_link name names = filter (λ other. not (same_link other name)) names
 -- the link was dialed
 abbrev pub has_dial : LinkName → List Dial → Bool
 has_dial name dials = list_any (λ dial. same_link dial.link name) dials
+
+-- the link whose traffic this is
+abbrev pub link_of : Traffic → LinkName
+link_of (Sent link bytes) = link
+link_of (Received link bytes) = link
+link_of (Ended link) = link
+
+-- traffic is of dialed links alone
+abbrev pub are_dialed : List Traffic → List Dial → Bool
+are_dialed traffic dials = list_all (λ event. has_dial (link_of event) dials) traffic
+
+-- the same, where both are told
+abbrev pub AreDialed : Option (List Traffic) → Option (List Dial) → Type 0
+AreDialed (Some traffic) (Some dials) = are_dialed traffic dials ≡ true
+AreDialed (Some traffic) None = Unit {0}
+AreDialed None dials = Unit {0}
 
 -- where the dials are told, the link was not dialed
 abbrev pub IsUndialed : LinkName → Option (List Dial) → Type 0
@@ -75,6 +91,43 @@ heard_in name (Ended link) = []
 -- the bytes that were read on the link
 abbrev pub heard_on : LinkName → List Traffic → List ℕ
 heard_on name traffic = flat_map (heard_in name) traffic
+
+-- the event is that the link's end was read
+abbrev pub is_end_of : LinkName → Traffic → Bool
+is_end_of name (Ended link) = same_link link name
+is_end_of name (Sent link bytes) = false
+is_end_of name (Received link bytes) = false
+
+-- the link's end was read
+abbrev pub has_ended : LinkName → List Traffic → Bool
+has_ended name traffic = list_any (is_end_of name) traffic
+
+-- what a peer sent, and whether it has ended
+pub record Stream : Type 0 where
+  pub bytes : List ℕ
+  pub ended : Bool
+
+-- what was read of the link: the bytes, and whether its end was
+abbrev pub read_on : LinkName → List Traffic → Stream
+read_on name traffic = record { bytes = heard_on name traffic; ended = has_ended name traffic }
+
+-- behind a link's end no bytes of it were read
+abbrev pub are_ended_last : List Traffic → Bool
+are_ended_last [] = true
+are_ended_last (Ended link ∷ later) = length (heard_on link later) == 0 && are_ended_last later
+are_ended_last (Sent link bytes ∷ later) = are_ended_last later
+are_ended_last (Received link bytes ∷ later) = are_ended_last later
+
+-- the same, where it is told
+abbrev pub AreEndedLast : Option (List Traffic) → Type 0
+AreEndedLast None = Unit {0}
+AreEndedLast (Some traffic) = are_ended_last traffic ≡ true
+
+-- where what the peers send is known, so is what was read of it
+abbrev pub IsKnownWith : Option (LinkName → List ℕ) → Option (List Traffic) → Type 0
+IsKnownWith None traffic = Unit {0}
+IsKnownWith (Some streams) (Some traffic) = Unit {0}
+IsKnownWith (Some streams) None = ⊥
 
 -- the bytes are the next ones of the rest, and the end is answered only where none is left
 abbrev pub GivesNext : List ℕ → Got → List ℕ → Type 0

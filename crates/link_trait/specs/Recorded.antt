@@ -1,23 +1,12 @@
 -- What a dialer of recorded links keeps, and its place in each stream.
-use Rattle.std.specs.Prelude.{ℕ, Bool, ◌&&◌, ◌==◌, not, List, map, filter, find, length, unwrap_or, option_map, if◌then◌else◌}
+use Rattle.std.specs.Prelude.{ℕ, ◌≡◌, Bool, true, ◌&&◌, ◌==◌, nat_le, not, List, map, filter, find, length, unwrap_or, option_map, if◌then◌else◌}
 use Rattle.std.specs.List.{list_all}
 use Rattle.link_trait.specs.declared.links.LinkName.{LinkName}
 use Rattle.link_trait.specs.declared.dialer.Dial.{Dial}
 use Rattle.link_trait.specs.declared.dialer.Traffic.{Traffic}
 use Rattle.link_trait.specs.declared.dialer.Traffic.TheVariants.{Sent, Received, Ended}
 use Rattle.link_trait.specs.declared.log.OpenLink.{OpenLink}
-use Rattle.link_trait.specs.Faults.{Counted}
-use Rattle.link_trait.specs.Links.{same_link, has_dial, heard_on}
-
--- the link that the bytes went over
-abbrev pub link_of : Traffic → LinkName
-link_of (Sent link bytes) = link
-link_of (Received link bytes) = link
-link_of (Ended link) = link
-
--- bytes went over dialed links alone
-abbrev pub are_dialed : List Traffic → List Dial → Bool
-are_dialed traffic dials = list_all (λ event. has_dial (link_of event) dials) traffic
+use Rattle.link_trait.specs.Links.{same_link, has_dial, heard_on, are_dialed, are_ended_last}
 
 -- an open link was dialed, and its place is the number of bytes that were read on it
 abbrev pub is_placed : List Dial → List Traffic → OpenLink → Bool
@@ -48,8 +37,17 @@ pub record LogState : Type 0 where
   pub traffic : List Traffic
   pub opened : List LinkName
 
--- a dialer of recorded links: the streams, what it dialed and carried, and its calls
-pub record RecordedState : Type 0 where
-  pub links : List (List (List ℕ))
-  pub log : LogState
-  pub counts : Counted
+-- traffic is of dialed links alone, and no bytes of a link were read behind its end
+pub record IsKept (log : LogState) : Type 0 where
+  pub dialed : are_dialed log.traffic log.dials ≡ true
+  pub ended_last : are_ended_last log.traffic ≡ true
+
+-- the event isn't a link's end, or the whole of its stream was read
+abbrev pub is_read_out : (LinkName → List ℕ) → List Traffic → Traffic → Bool
+is_read_out streams traffic (Ended link) = nat_le (length (streams link)) (length (heard_on link traffic))
+is_read_out streams traffic (Sent link bytes) = true
+is_read_out streams traffic (Received link bytes) = true
+
+-- a link's end was read only where the whole of its stream was
+abbrev pub are_read_out : (LinkName → List ℕ) → List Traffic → Bool
+are_read_out streams traffic = list_all (is_read_out streams traffic) traffic

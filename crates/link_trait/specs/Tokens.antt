@@ -1,5 +1,6 @@
 -- What providers of tokens answer.
-use Rattle.std.specs.Prelude.{ℕ, Bool, true, false, ◌≡◌, ◌⊎◌, ◌==◌, List, [], ◌∷◌, filter, length, slice_get, unwrap_or, if◌then◌else◌}
+use Rattle.std.specs.Prelude.{ℕ, Bool, true, false, ◌≡◌, ◌⊎◌, ◌==◌, ◌≤◌, List, [], ◌∷◌, filter, length, slice_get, unwrap_or, if◌then◌else◌}
+use Rattle.std.proofs.Common.{get_or}
 use Rattle.std.specs.List.{list_all}
 use Rattle.std.specs.declared.option.Option.{Option}
 use Rattle.std.specs.declared.option.Option.TheVariants.{None, Some}
@@ -15,6 +16,10 @@ abbrev pub is_answered : Step → Bool
 is_answered Failed = false
 is_answered NoMemory = false
 is_answered step = true
+
+-- every step of the script is an answer: none fails, and none wants memory
+abbrev pub are_answered : List (List Step) → Bool
+are_answered script = list_all (λ steps. list_all is_answered steps) script
 
 -- an answered start is told, with its arguments and its step
 abbrev pub starting : Step → ℕ → List ℕ → Option Login → List TokenCall
@@ -36,6 +41,10 @@ step_at script request place = unwrap_or (slice_get (unwrap_or (numbered script 
 -- how many calls of the request took a step
 abbrev pub taken_by : ℕ → List ℕ → ℕ
 taken_by request taken = length (filter (λ other. other == request) taken)
+
+-- the places of the requests up to 2,048; those that aren't listed are 0
+abbrev pub ArePlaces : List ℕ → List ℕ → Type 0
+ArePlaces places taken = (n : ℕ) → n ≤ 2048 → get_or places n 0 ≡ taken_by n taken
 
 -- where the script is known, a call has memory for none or answers a step of its request's script; where the calls before are known, it is the next one
 abbrev pub IsStepBy : Option (List (List Step)) → Option (List ℕ) → ℕ → Step → Type 0

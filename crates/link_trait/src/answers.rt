@@ -2,27 +2,53 @@
 
 ghost use Rattle.std.specs.Prelude.{◌≡◌, [], ◌∷◌, ◌++◌, ◌<◌, length, slice_get, IfErr, OnOk, OnErr, OnSome};
 ghost use Rattle.std.specs.Option.{option_copied};
+ghost use Rattle.link_trait.specs.Repeated.{flat, times};
 
 use auth_text::{Identity, Items};
 use spaces::Space;
 use std::alloc::{AllocFailed, Global};
 use std::marker::Model;
 
+/// An answer that is given so many times on end.
+#[derive(Debug, Drop)]
+pub(crate) struct Repeated {
+    pub(crate) answer: (Space, Option<Identity>),
+    pub(crate) count: usize,
+}
+
 /// The list of answers, each a space and the identity given, or none where the prompt is
 /// cancelled. The nth answer of a space is for its prompt of ordinal n.
 #[derive(Debug, Drop)]
 pub struct Answers {
-    answers: Items<(Space, Option<Identity>)>,
+    answers: Items<Repeated>,
+    len: usize,
 }
 
 impl Model for Answers {
-    ghost use Rattle.std.specs.Prelude.{List, Option};
+    ghost use Rattle.std.specs.Prelude.{◌≡◌, List, Option, length};
     ghost use Rattle.auth_text.specs.Login.{Login};
     ghost use Rattle.spaces.specs.ProtectionSpaces.{ProtectionSpace};
+    ghost use Rattle.link_trait.specs.Repeated.{flat};
 
     ghost Value = { List (ProtectionSpace × Option Login) };
 
-    ghost view = { λ it. it.answers };
+    ghost view = { λ it. flat it.answers };
+
+    ghost invariant = { λ it. it.len ≡ length (flat it.answers) };
+}
+
+// The answer at a place, counted from 0.
+fn answer_at(answers: &[Repeated], at: usize) -> Option<&(Space, Option<Identity>)>
+    ensures value { option_copied result ≡ slice_get (flat answers.now) at }
+{
+    let mut left = at;
+    for repeated in answers {
+        if left < repeated.count {
+            return Some(&repeated.answer);
+        }
+        left -= repeated.count;
+    }
+    None
 }
 
 impl Answers {
@@ -32,6 +58,7 @@ impl Answers {
     {
         Answers {
             answers: Items::new(alloc),
+            len: 0,
         }
     }
 
@@ -39,7 +66,7 @@ impl Answers {
     pub fn len(&self) -> usize
         ensures { result ≡ length self.now }
     {
-        self.answers.len()
+        self.len
     }
 
     /// The answer at a place, counted from 0.
@@ -47,7 +74,7 @@ impl Answers {
         ensures value { option_copied result ≡ slice_get self.now at }
         ensures within { OnSome result (at < length self.now) }
     {
-        self.answers.get(at)
+        answer_at(self.answers.as_slice(), at)
     }
 
     /// Adds an answer at the end. An `Err` changes nothing and hands the answer back.
@@ -59,12 +86,37 @@ impl Answers {
         ensures err { OnErr result (self.new ≡ self.old) }
         ensures back { IfErr result (λ refused. refused.value ≡ answer) }
     {
-        self.answers.push(answer)
+        self.push_times(answer, 1)
     }
 
-    /// The answers, in order.
-    pub(crate) fn as_slice(&self) -> &[(Space, Option<Identity>)]
-        ensures { result.now ≡ self.now }
+    /// Adds an answer at the end, so many times; it is kept once. An `Err` changes nothing and hands
+    /// the answer back.
+    pub fn push_times(
+        &mut self,
+        answer: (Space, Option<Identity>),
+        count: usize,
+    ) -> Result<(), AllocFailed<(Space, Option<Identity>)>>
+        ensures ok { OnOk result (self.new ≡ self.old ++ times count answer) }
+        ensures err { OnErr result (self.new ≡ self.old) }
+        ensures back { IfErr result (λ refused. refused.value ≡ answer) }
+    {
+        let Some(len) = self.len.checked_add(count) else {
+            return Err(AllocFailed { value: answer });
+        };
+        match self.answers.push(Repeated { answer, count }) {
+            Ok(()) => {
+                self.len = len;
+                Ok(())
+            }
+            Err(refused) => Err(AllocFailed {
+                value: refused.value.answer,
+            }),
+        }
+    }
+
+    /// The answers, in order, each with its number of repeats.
+    pub(crate) fn as_slice(&self) -> &[Repeated]
+        ensures { flat result.now ≡ self.now }
     {
         self.answers.as_slice()
     }

@@ -15,6 +15,7 @@ mod script_tokens;
 mod scripts;
 mod steps;
 mod streams;
+mod taken;
 mod tokens;
 
 pub use answers::Answers;
@@ -29,6 +30,3 @@ pub use scripts::{FailingPrompter, ScriptPrompter};
 pub use steps::{Step, StepSeen, Steps};
 pub use streams::{Got, Sink, Source, Took};
 pub use tokens::{NoTokens, TokenCall, Tokens};
-
-#[cfg(test)]
-mod tests;

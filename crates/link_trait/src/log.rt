@@ -1,15 +1,15 @@
 //! What a dialer in memory dialed, wrote and read, with its place in each open link's stream, so
 //! that a read needn't go over what was read before.
 
-ghost use Rattle.std.specs.Prelude.{◌≡◌, ◌+◌, ◌^◌, ◌<◌, [], ◌∷◌, ◌++◌, true, false, map, length, IfOk, OnOk, OnErr};
+ghost use Rattle.std.specs.Prelude.{◌≡◌, ◌+◌, ◌^◌, ◌<◌, [], ◌∷◌, ◌++◌, true, false, map, length, OnOk, OnErr};
 ghost use Rattle.link_trait.specs.declared.dialer.Traffic.TheVariants.{Sent, Received, Ended};
-ghost use Rattle.link_trait.specs.Links.{has_link, has_dial, without_link, heard_on};
-ghost use Rattle.link_trait.specs.Recorded.{place_in, moved, closed};
+ghost use Rattle.link_trait.specs.Links.{has_link, has_dial, has_ended, without_link, heard_on};
+ghost use Rattle.link_trait.specs.Recorded.{IsKept, place_in, moved, closed};
 
 use crate::dialer::{Dial, Traffic};
 use crate::links::{LinkName, same_link};
 use auth_text::{Bytes, Items, NoMemory};
-use spaces::Origin;
+use spaces::{Origin, copy_origin};
 use std::alloc::Global;
 use std::marker::Model;
 
@@ -31,19 +31,15 @@ pub(crate) struct LinkLog {
 
 impl Model for LinkLog {
     ghost use Rattle.std.specs.Prelude.{◌≡◌, true};
-    ghost use Rattle.link_trait.specs.Recorded.{LogState, are_dialed, are_placed, names_of};
+    ghost use Rattle.link_trait.specs.Links.{are_dialed, are_ended_last};
+    ghost use Rattle.link_trait.specs.Recorded.{LogState, are_placed, names_of};
 
     ghost Value = { LogState };
 
     ghost view = { λ it. record { dials = it.dials; traffic = it.traffic; opened = names_of it.«open».items } };
 
-    ghost invariant = { λ it. (are_dialed it.traffic it.dials ≡ true) × (are_placed it.«open».items it.dials it.traffic ≡ true) };
-}
-
-fn copy_origin(origin: &Origin) -> Result<Origin, NoMemory>
-    ensures { IfOk result (λ copy. copy ≡ origin.now) }
-{
-    Ok(origin.clone()?)
+    ghost invariant = { λ it. (are_dialed it.traffic it.dials ≡ true) × (are_placed it.«open».items it.dials it.traffic ≡ true)
+        × (are_ended_last it.traffic ≡ true) };
 }
 
 // How many bytes were read on the link.
@@ -105,9 +101,10 @@ impl LinkLog {
         requires { has_dial name self.old.dials ≡ false }
         ensures ok { OnOk result (self.new ≡ record { dials = self.old.dials ++ record { link = name; to = to.now } ∷ []; traffic = self.old.traffic; opened = self.old.opened ++ name ∷ [] }) }
         ensures err { OnErr result (self.new ≡ self.old) }
+        ensures kept { IsKept self.new }
     {
-        let to = copy_origin(to)?;
         self.open.reserve(1)?;
+        let to = copy_origin(to)?;
         self.dials.push(Dial { link: name, to })?;
         self.open.push_reserved(OpenLink { name, place: 0 });
         Ok(())
@@ -118,6 +115,7 @@ impl LinkLog {
         requires { has_link name self.old.opened ≡ true }
         ensures ok { OnOk result (self.new ≡ record { dials = self.old.dials; traffic = self.old.traffic ++ Sent name bytes.now ∷ []; opened = self.old.opened }) }
         ensures err { OnErr result (self.new ≡ self.old) }
+        ensures kept { IsKept self.new }
     {
         let bytes = Bytes::from_slice(self.alloc, bytes)?;
         self.traffic.push(Traffic::Sent { link: name, bytes })?;
@@ -127,9 +125,11 @@ impl LinkLog {
     /// The bytes were read from the link.
     pub(crate) fn received(&mut self, name: LinkName, bytes: &[u8]) -> Result<(), NoMemory>
         requires open { has_link name self.old.opened ≡ true }
+        requires more { has_ended name self.old.traffic ≡ false }
         requires fit { length (heard_on name self.old.traffic) + length bytes.now < 2 ^ 64 }
         ensures ok { OnOk result (self.new ≡ record { dials = self.old.dials; traffic = self.old.traffic ++ Received name bytes.now ∷ []; opened = self.old.opened }) }
         ensures err { OnErr result (self.new ≡ self.old) }
+        ensures kept { IsKept self.new }
     {
         let place = self.place(name) + bytes.len();
         let bytes = Bytes::from_slice(self.alloc, bytes)?;
@@ -143,6 +143,7 @@ impl LinkLog {
         requires { has_link name self.old.opened ≡ true }
         ensures ok { OnOk result (self.new ≡ record { dials = self.old.dials; traffic = self.old.traffic ++ Ended name ∷ []; opened = self.old.opened }) }
         ensures err { OnErr result (self.new ≡ self.old) }
+        ensures kept { IsKept self.new }
     {
         self.traffic.push(Traffic::Ended { link: name })?;
         Ok(())
@@ -150,7 +151,8 @@ impl LinkLog {
 
     /// The link is closed.
     pub(crate) fn closed(&mut self, name: LinkName)
-        ensures { self.new ≡ record { dials = self.old.dials; traffic = self.old.traffic; opened = without_link name self.old.opened } }
+        ensures log { self.new ≡ record { dials = self.old.dials; traffic = self.old.traffic; opened = without_link name self.old.opened } }
+        ensures kept { IsKept self.new }
     {
         close_link(&mut self.open, name);
     }

@@ -1,10 +1,10 @@
 //! A source and a sink in memory, which fail at the calls that they are told.
 
-ghost use Rattle.std.specs.Prelude.{◌≡◌, [], ◌≤◌, length, min, take, drop};
+ghost use Rattle.std.specs.Prelude.{◌≡◌, [], ◌≤◌, length, min, take};
 
 use crate::calls::{Calls, Failures};
 use crate::streams::{Got, Sink, Source, Took};
-use auth_text::Bytes;
+use auth_text::{Bytes, rest_of};
 use std::alloc::Global;
 use std::cmp;
 use std::marker::Model;
@@ -17,14 +17,6 @@ pub(crate) fn copy_front(from: &[u8], buf: &mut [u8]) -> usize
     let count = cmp::min(from.len(), buf.len());
     buf[..count].copy_from_slice(&from[..count]);
     count
-}
-
-/// The bytes from a place on.
-pub(crate) fn behind(bytes: &[u8], at: usize) -> &[u8]
-    requires { at ≤ length bytes.now }
-    ensures { result.now ≡ drop at bytes.now }
-{
-    &bytes[at..]
 }
 
 /// A source of bytes in memory.
@@ -79,7 +71,7 @@ impl Source for MemSource {
         if self.failures.next_fails() {
             return Got::Failed;
         }
-        let rest = behind(self.bytes.as_slice(), self.at);
+        let rest = rest_of(self.bytes.as_slice(), self.at);
         if rest.is_empty() {
             return Got::End;
         }

@@ -1,8 +1,9 @@
 //! A dialer of recorded links: what each peer sends is given beforehand, and what was dialed,
 //! written and read is kept.
 
-ghost use Rattle.std.specs.Prelude.{◌≡◌, [], drop};
-ghost use Rattle.link_trait.specs.Links.{same_link, stream_in};
+ghost use Rattle.std.specs.Prelude.{◌≡◌, ◌≢◌, ◌+◌, ◌<◌, ◌^◌, [], true, false, drop, length};
+ghost use Rattle.link_trait.specs.Links.{same_link, stream_in, has_link, has_ended, heard_on, are_dialed, are_ended_last};
+ghost use Rattle.link_trait.specs.Recorded.{are_read_out};
 
 use crate::calls::{Calls, Failures};
 use crate::dialer::{Dialed, Dialer, Wrote};
@@ -14,7 +15,6 @@ use crate::streams::Got;
 use spaces::Origin;
 use std::alloc::Global;
 use std::cmp;
-use std::marker::Model;
 
 /// A dialer of recorded links, which fails at listed calls of `dial`, `write` and `read`, counted
 /// together from 1. A link past the list has the empty stream.
@@ -23,14 +23,9 @@ pub struct RecordedDialer {
     links: Links,
     log: LinkLog,
     failures: Failures,
-}
-
-impl Model for RecordedDialer {
-    ghost use Rattle.link_trait.specs.Recorded.{RecordedState};
-
-    ghost Value = { RecordedState };
-
-    ghost view = { λ it. record { links = it.links; log = it.log; counts = it.failures } };
+    ghost dialed: { are_dialed log.traffic log.dials ≡ true },
+    ghost ended_last: { are_ended_last log.traffic ≡ true },
+    ghost read_out: { are_read_out (stream_in links) log.traffic ≡ true },
 }
 
 /// The recorded stream of a link: empty where none is recorded.
@@ -46,7 +41,8 @@ pub fn stream_in(links: &Links, name: LinkName) -> &[u8]
     }
 }
 
-fn rest_of(stream: &[u8], place: usize) -> &[u8]
+// What stands behind a place of the stream; nothing behind its end.
+fn behind(stream: &[u8], place: usize) -> &[u8]
     ensures { result.now ≡ drop place stream.now }
 {
     &stream[cmp::min(stream.len(), place)..]
@@ -71,6 +67,16 @@ impl RecordedDialer {
             failures: Failures::new(failing),
         }
     }
+
+    // What the peer of the open link has still to send.
+    fn rest(&self, name: LinkName) -> &[u8]
+        requires { has_link name self.now.log.opened ≡ true }
+        ensures rest { result.now ≡ drop (length (heard_on name self.now.log.traffic)) (stream_in self.now.links name) }
+        ensures fit { length (heard_on name self.now.log.traffic) + length result.now < 2 ^ 64 }
+        ensures more { result.now ≢ [] → has_ended name self.now.log.traffic ≡ false }
+    {
+        behind(stream_in(&self.links, name), self.log.place(name))
+    }
 }
 
 impl Dialer for RecordedDialer {
@@ -84,11 +90,17 @@ impl Dialer for RecordedDialer {
 
     ghost opened = { λ it. it.log.opened };
 
-    ghost faults = { λ it. it.counts.faults };
+    ghost dialed = { λ it. it.dialed };
 
-    ghost schedule = { λ it. Some it.counts.schedule };
+    ghost ended_last = { λ it. it.ended_last };
 
-    ghost quiet = { λ it. it.counts.schedule.listed ≡ [] };
+    ghost known_with = { λ it. tt };
+
+    ghost faults = { λ it. it.failures.faults };
+
+    ghost schedule = { λ it. Some it.failures.schedule };
+
+    ghost quiet = { λ it. it.failures.schedule.listed ≡ [] };
 
     fn dial(&mut self, name: LinkName, to: &Origin) -> Dialed {
         if self.failures.next_fails() {
@@ -114,7 +126,7 @@ impl Dialer for RecordedDialer {
         if self.failures.next_fails() {
             return Got::Failed;
         }
-        let rest = rest_of(stream_in(&self.links, name), self.log.place(name));
+        let rest = self.rest(name);
         if rest.is_empty() {
             return match self.log.ended(name) {
                 Ok(()) => Got::End,

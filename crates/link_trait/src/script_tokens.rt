@@ -6,8 +6,9 @@ ghost use Rattle.link_trait.specs.declared.tokens.TokenCall.TheVariants.{Started
 ghost use Rattle.link_trait.specs.Tokens.{is_answered, step_at, taken_by, taking, are_quiet};
 
 use crate::numbering::numbered;
-use crate::scripts::copy_identity;
+use crate::scripts::copy_given;
 use crate::steps::{Step, Steps};
+use crate::taken::Taken;
 use crate::tokens::{TokenCall, Tokens};
 use auth_text::{Bytes, Identity, Items, NoMemory};
 use std::alloc::Global;
@@ -20,7 +21,7 @@ pub struct ScriptTokens {
     alloc: Global,
     script: Steps,
     told: Items<TokenCall>,
-    taken: Items<u32>,
+    taken: Taken,
     faults: u64,
 }
 
@@ -33,12 +34,6 @@ impl Model for ScriptTokens {
     ghost view = { λ it. record { script = it.script; told = it.told; taken = it.taken; faults = it.faults } };
 
     ghost invariant = { λ it. it.faults ≤ length it.taken };
-}
-
-fn taken_by(request: u32, taken: &[u32]) -> usize
-    ensures { result ≡ taken_by request taken.now }
-{
-    taken.iter().filter(|other| **other == request).count()
 }
 
 fn is_answered(step: &Step) -> bool
@@ -76,7 +71,7 @@ impl ScriptTokens {
             alloc,
             script: steps,
             told: Items::new(alloc),
-            taken: Items::new(alloc),
+            taken: Taken::new(alloc),
             faults: 0,
         }
     }
@@ -85,7 +80,7 @@ impl ScriptTokens {
     fn next_step(&self, request: u32) -> Result<Step, NoMemory>
         ensures { IfOk result (λ step. step ≡ step_at self.now.script request (taken_by request self.now.taken)) }
     {
-        let place = taken_by(request, self.taken.as_slice());
+        let place = self.taken.by(request);
         let step = match numbered(&self.script, request) {
             None => None,
             Some(steps) => steps.get(place),
@@ -117,12 +112,12 @@ impl ScriptTokens {
         ensures ok { OnOk result (self.new ≡ record { script = self.old.script; told = self.old.told ++ call ∷ []; taken = self.old.taken ++ request ∷ []; faults = self.old.faults }) }
         ensures err { OnErr result (self.new ≡ self.old) }
     {
-        let len = self.taken.len();
-        self.taken.push(request)?;
-        match self.told.push(call) {
+        let len = self.told.len();
+        self.told.push(call)?;
+        match self.taken.push(request) {
             Ok(()) => Ok(()),
             Err(_) => {
-                self.taken.truncate(len);
+                self.told.truncate(len);
                 Err(NoMemory)
             }
         }
@@ -141,7 +136,7 @@ impl ScriptTokens {
         let call = TokenCall::Started {
             request,
             spn: Bytes::from_slice(self.alloc, spn)?,
-            identity: copy_identity(identity)?,
+            identity: copy_given(identity)?,
             step: copy_step(self.alloc, Some(step))?,
         };
         self.tell(request, call)

@@ -2,79 +2,59 @@
 
 ghost use Rattle.std.specs.Prelude.{◌≡◌, [], IfOk, option_copied};
 ghost use Rattle.link_trait.specs.Prompts.{answer_in};
+ghost use Rattle.link_trait.specs.Repeated.{flat};
 
-use crate::answers::Answers;
+use crate::answers::{Answers, Repeated};
 use crate::calls::{Calls, Failures};
 use crate::prompts::{Ask, Asked, Prompter};
-use auth_text::{Bytes, Identity, Items, NoMemory};
-use spaces::{Site, Space, same_space};
+use auth_text::{Identity, Items, NoMemory};
+use spaces::{Space, copy_identity, copy_space, same_space};
 use std::alloc::Global;
 use std::marker::Model;
 
 /// The answer to a space's prompt of an ordinal.
-fn answer_in<'a>(
-    answers: &'a [(Space, Option<Identity>)],
-    space: &Space,
-    ordinal: u32,
-) -> Option<&'a Identity>
-    ensures { option_copied result ≡ answer_in answers.now space.now ordinal }
+fn answer_in<'a>(answers: &'a [Repeated], space: &Space, ordinal: u32) -> Option<&'a Identity>
+    ensures { option_copied result ≡ answer_in (flat answers.now) space.now ordinal }
 {
-    let mut left = ordinal;
-    for answer in answers {
-        if same_space(&answer.0, space) {
-            if left == 1 {
-                return answer.1.as_ref();
+    let mut left = ordinal as usize;
+    for repeated in answers {
+        if same_space(&repeated.answer.0, space) {
+            if left == 0 {
+                return None;
             }
-            left = left.saturating_sub(1);
+            if left <= repeated.count {
+                return repeated.answer.1.as_ref();
+            }
+            left -= repeated.count;
         }
     }
     None
 }
 
-pub(crate) fn copy_identity(identity: Option<&Identity>) -> Result<Option<Identity>, NoMemory>
+// A copy of the identity, where there is one.
+pub(crate) fn copy_given(identity: Option<&Identity>) -> Result<Option<Identity>, NoMemory>
     ensures { IfOk result (λ copy. copy ≡ option_copied identity.entry) }
 {
     match identity {
         None => Ok(None),
-        Some(identity) => Ok(Some(identity.clone()?)),
+        Some(identity) => Ok(Some(copy_identity(identity)?)),
     }
 }
 
-fn copy_site(site: &Site) -> Result<Site, NoMemory>
-    ensures { IfOk result (λ copy. copy ≡ site.now) }
-{
-    Ok(Site {
-        partition: site.partition.clone()?,
-        target: site.target,
-        origin: site.origin.clone()?,
-    })
-}
-
-fn copy_space(alloc: Global, space: &Space) -> Result<Space, NoMemory>
-    ensures { IfOk result (λ copy. copy ≡ space.now) }
-{
-    let site = copy_site(space.site())?;
-    let realm = Bytes::from_slice(alloc, space.realm())?;
-    Ok(Space::new(site, space.scheme(), realm))
-}
-
-fn copy_answer(
-    alloc: Global,
-    answer: &(Space, Option<Identity>),
-) -> Result<(Space, Option<Identity>), NoMemory>
+fn copy_answer(answer: &(Space, Option<Identity>)) -> Result<(Space, Option<Identity>), NoMemory>
     ensures { IfOk result (λ copy. copy ≡ answer.now) }
 {
-    let space = copy_space(alloc, &answer.0)?;
-    let given = copy_identity(answer.1.as_ref())?;
+    let space = copy_space(&answer.0)?;
+    let given = copy_given(answer.1.as_ref())?;
     Ok((space, given))
 }
 
-fn copy_answers(alloc: Global, answers: &[(Space, Option<Identity>)]) -> Result<Answers, NoMemory>
-    ensures { IfOk result (λ copies. copies ≡ answers.now) }
+fn copy_answers(alloc: Global, answers: &[Repeated]) -> Result<Answers, NoMemory>
+    ensures { IfOk result (λ copies. copies ≡ flat answers.now) }
 {
     let mut copies = Answers::new(alloc);
-    for answer in answers {
-        copies.push(copy_answer(alloc, answer)?)?;
+    for repeated in answers {
+        copies.push_times(copy_answer(&repeated.answer)?, repeated.count)?;
     }
     Ok(copies)
 }
@@ -82,7 +62,6 @@ fn copy_answers(alloc: Global, answers: &[(Space, Option<Identity>)]) -> Result<
 /// A prompter that answers from a list, and cancels past a space's last answer. It never fails.
 #[derive(Drop)]
 pub struct ScriptPrompter {
-    alloc: Global,
     answers: Answers,
     asks: Items<Ask>,
 }
@@ -106,7 +85,6 @@ impl ScriptPrompter {
         ensures quiet { IfOk result (λ it. ⟦<ScriptPrompter as Prompter>⟧.quiet it) }
     {
         Ok(ScriptPrompter {
-            alloc,
             answers: copy_answers(alloc, answers.as_slice())?,
             asks: Items::new(alloc),
         })
@@ -114,9 +92,17 @@ impl ScriptPrompter {
 }
 
 impl Prompter for ScriptPrompter {
-    ghost use Rattle.std.specs.Prelude.{Some};
+    ghost use Rattle.std.specs.Prelude.{Some, map};
+    ghost use Rattle.link_trait.specs.Prompts.{answered_by};
+    ghost use Rattle.link_trait.specs.PrompterLaws.{asks_are, alike};
 
     ghost told = { λ it. Some it.asks };
+
+    ghost answered = { λ it. Some (map (answered_by it.answers) it.asks) };
+
+    ghost asks = { λ it. asks_are it.answers it.asks };
+
+    ghost alike = { λ it. alike it.answers it.asks };
 
     ghost answers = { λ it. Some (answer_in it.answers) };
 
@@ -125,10 +111,10 @@ impl Prompter for ScriptPrompter {
     ghost quiet = { λ it. Unit {0} };
 
     fn ask(&mut self, space: &Space, ordinal: u32) -> Asked {
-        let Ok(asked_for) = copy_space(self.alloc, space) else {
+        let Ok(asked_for) = copy_space(space) else {
             return Asked::NoMemory;
         };
-        let Ok(given) = copy_identity(answer_in(self.answers.as_slice(), space, ordinal)) else {
+        let Ok(given) = copy_given(answer_in(self.answers.as_slice(), space, ordinal)) else {
             return Asked::NoMemory;
         };
         match self.asks.push(Ask {
@@ -186,9 +172,17 @@ impl FailingPrompter {
 }
 
 impl Prompter for FailingPrompter {
-    ghost use Rattle.std.specs.Prelude.{Some};
+    ghost use Rattle.std.specs.Prelude.{Some, map};
+    ghost use Rattle.link_trait.specs.Prompts.{answered_by};
+    ghost use Rattle.link_trait.specs.PrompterLaws.{asks_are, alike};
 
     ghost told = { λ it. Some it.script.asks };
+
+    ghost answered = { λ it. Some (map (answered_by it.script.answers) it.script.asks) };
+
+    ghost asks = { λ it. asks_are it.script.answers it.script.asks };
+
+    ghost alike = { λ it. alike it.script.answers it.script.asks };
 
     ghost answers = { λ it. Some (answer_in it.script.answers) };
 

@@ -7,26 +7,26 @@ use Rattle.spaces.specs.declared.roster.Roster.{Roster}
 use Rattle.auth_events.specs.declared.journal.Entry.{Entry}
 use Rattle.auth_events.specs.Tables.{Tables}
 use Rattle.auth_events.specs.Past.{takes_away}
-use Rattle.auth_events.specs.Book.{Noted_dir, with_room, with_dir, better, dirs, notes, is_noted, target_of, path_of}
+use Rattle.auth_events.specs.Book.{NotedDir, with_room, with_dir, better, dirs, notes, is_noted, target_of, path_of}
 use Rattle.spaces.specs.Paths.{dir_of, covers}
 use Rattle.spaces.specs.declared.site.Target.{Target}
 use Rattle.plain_book.specs.Places.{noted_at, request_at, best_dir}
 use Rattle.std.proofs.lemmas.List.Sums.{fold_push}
 use Rattle.plain_book.proofs.Backward.{past_more}
 
-drop-map : (f : ℕ → Noted_dir) (xs : List ℕ) → drop 1 (map f xs) ≡ map f (drop 1 xs)
+drop-map : (f : ℕ → NotedDir) (xs : List ℕ) → drop 1 (map f xs) ≡ map f (drop 1 xs)
 drop-map f [] = refl
 drop-map f (x ∷ xs) = refl
 
 -- of ten directories the first is dropped
-pub with_room_map : (f : ℕ → Noted_dir) (xs : List ℕ) (x : ℕ) → map f (cond (ltb (length xs) 10) xs (drop 1 xs) ++ x ∷ []) ≡ with_room (map f xs) ++ f x ∷ []
+pub with_room_map : (f : ℕ → NotedDir) (xs : List ℕ) (x : ℕ) → map f (cond (ltb (length xs) 10) xs (drop 1 xs) ++ x ∷ []) ≡ with_room (map f xs) ++ f x ∷ []
 with_room_map f xs x = map-append f (cond (ltb (length xs) 10) xs (drop 1 xs)) (x ∷ []) ∙ ap (λ ds. ds ++ f x ∷ []) (room (ltb (length xs) 10) ∙ ap (λ n. cond (ltb n 10) (map f xs) (drop 1 (map f xs))) (sym (length-map xs f)))
   where
     room : (b : Bool) → map f (cond b xs (drop 1 xs)) ≡ cond b (map f xs) (drop 1 (map f xs))
     room true = refl
     room false = sym (drop-map f xs)
 
-noted_same : (roster : Roster) (target : Target) (r r' l l' : ℕ) → r ≡ r' → l ≡ l' → ◌≡◌ {A = Noted_dir} (record { dir = dir_of (path_of roster r target); place = l }) (record { dir = dir_of (path_of roster r' target); place = l' })
+noted_same : (roster : Roster) (target : Target) (r r' l l' : ℕ) → r ≡ r' → l ≡ l' → ◌≡◌ {A = NotedDir} (record { dir = dir_of (path_of roster r target); place = l }) (record { dir = dir_of (path_of roster r' target); place = l' })
 noted_same roster target r r' l l' same_r same_l = cc
 
 -- an entry more has been looked at
@@ -42,7 +42,7 @@ dirs_more roster names entries at s within d =
     (noted_same roster (target_of names s) _ _ _ _ request place)
 
 -- a directory more has been looked at
-pub best_dir_more : (p : List ℕ) (s : ℕ) (f : ℕ → Noted_dir) (held : List ℕ) (i d : ℕ) → i < length held → best_dir p s (map f (take (i + 1) held)) ≡ better (best_dir p s (map f (take i held))) (cond (covers (f (get_or held i d)).dir p) (Some (record { space = s; noted = f (get_or held i d) })) None)
+pub best_dir_more : (p : List ℕ) (s : ℕ) (f : ℕ → NotedDir) (held : List ℕ) (i d : ℕ) → i < length held → best_dir p s (map f (take (i + 1) held)) ≡ better (best_dir p s (map f (take i held))) (cond (covers (f (get_or held i d)).dir p) (Some (record { space = s; noted = f (get_or held i d) })) None)
 best_dir_more p s f held i d within =
     ap (λ xs. best_dir p s (map f xs)) (take_more held i d within)
     ∙ (ap (best_dir p s) (map-append f (take i held) (get_or held i d ∷ []))

@@ -1,8 +1,8 @@
 //! A book that finds every reply by going over its journal. It is the definitions' plain program, and
 //! other books are held against the same clauses.
 
-use crate::allowed::is_allowed;
-use crate::reply::{is_pending, nonce_left, reply_to};
+use crate::nonces::retired;
+use crate::reply::{is_pending, reply_to};
 use auth_events::{Call, Controller, Did, Entry, Gift, Journal, Ledger, Names, TermsRef};
 use auth_text::{Identity, NoMemory};
 use spaces::{Roster, Space, Terms};
@@ -23,10 +23,8 @@ impl PlainBook {
     /// A book with no entries and no names, which takes the journal's room at once.
     pub fn new(alloc: Global, roster: &Roster) -> Result<PlainBook, NoMemory>
         requires { length roster.now.requests ≤ 2048 }
-        ensures roster { IfOk result (λ book. book.ledger.roster ≡ roster.now) }
-        ensures entries { IfOk result (λ book. book.ledger.journal.entries ≡ []) }
-        ensures names { IfOk result (λ book. book.ledger.names ≡ no_names) }
-        ensures made { IfOk result (λ book. book.ledger.made.items ≡ []) }
+        ensures roster { IfOk result (λ book. ⟦<PlainBook as Controller>⟧.roster book ≡ roster.now) }
+        ensures names { IfOk result (λ book. ⟦<PlainBook as Controller>⟧.names book ≡ no_names) }
         ensures told { IfOk result (λ book. ⟦<PlainBook as Controller>⟧.told book ≡ []) }
     {
         let ledger = Ledger::new(alloc, roster)?;
@@ -38,22 +36,9 @@ impl PlainBook {
         ensures roster { result.0 ≡ ⟦<PlainBook as Controller>⟧.roster self }
         ensures names { result.1 ≡ names_told (⟦<PlainBook as Controller>⟧.told self) }
         ensures entries { result.2.entries ≡ journal (⟦<PlainBook as Controller>⟧.told self) }
+        ensures requests { result.2.requests ≡ length (⟦<PlainBook as Controller>⟧.roster self).requests }
     {
         self.ledger.into_parts()
-    }
-
-    /// Whether the call may be made: its conditions, decided.
-    pub fn is_allowed(&self, caller: u32, request: u32, call: Call) -> bool
-        ensures { result ≡ Book.allowed self.now.ledger.roster self.now.ledger.names (reverse self.now.ledger.journal.entries) caller request call }
-    {
-        is_allowed(
-            self.ledger.roster(),
-            self.ledger.names(),
-            self.ledger.entries(),
-            caller,
-            request,
-            call,
-        )
     }
 
     /// Answers the call. It takes no memory.
@@ -78,14 +63,14 @@ impl PlainBook {
         if is_pending(reply) {
             return Did { reply, retired: 0 };
         }
-        self.ledger.append(Entry {
+        let entry = Entry {
             caller,
             request,
             call,
             reply,
-        });
-        let entries = self.ledger.entries();
-        let retired = nonce_left(self.ledger.names(), &entries[..entries.len() - 1], entries);
+        };
+        let retired = retired(self.ledger.names(), self.ledger.entries(), &entry);
+        self.ledger.append(entry);
         Did { reply, retired }
     }
 }
@@ -94,7 +79,7 @@ impl Controller for PlainBook {
     ghost use Rattle.std.proofs.Common.{sym, subst, ap, ◌∙◌};
     ghost use Rattle.std.proofs.Math.Logic.{∥∥₁_elim};
     ghost use Rattle.auth_events.specs.Ledgers.{told_of};
-    ghost use Rattle.auth_events.proofs.LedgerLaws.{legal, no_draw, told_names, are_names, few};
+    ghost use Rattle.auth_events.proofs.LedgerLaws.{legal, legal_throughout, no_draw, told_names, are_names, few};
 
     ghost roster = { λ book. book.ledger.roster };
 
@@ -103,6 +88,8 @@ impl Controller for PlainBook {
     ghost names = { λ book. book.ledger.names };
 
     ghost legal = { λ book. legal book.ledger.roster book.ledger.names book.ledger.made.items book.ledger.journal.entries book.ledger.kept };
+
+    ghost legal_throughout = { λ book. legal_throughout book.ledger.roster book.ledger.names book.ledger.made.items book.ledger.journal.entries book.ledger.kept };
 
     ghost no_draw = { λ book. no_draw book.ledger.roster book.ledger.names book.ledger.made.items book.ledger.journal.entries book.ledger.kept };
 

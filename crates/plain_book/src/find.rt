@@ -1,6 +1,6 @@
 //! What the roster, the names and a past say together: schemes, targets, and who is evicted.
 
-ghost use Rattle.std.specs.Prelude.{◌≡◌, ◌+◌, ◌^◌, ◌<◌, ◌&&◌, reverse, length};
+ghost use Rattle.std.specs.Prelude.{◌≡◌, ◌+◌, ◌^◌, ◌<◌, ◌&&◌, bytes_eq, reverse, length};
 ghost use Rattle.auth_events.specs.Book as Book;
 ghost use Rattle.auth_events.specs.Past as Past;
 ghost use Rattle.std.specs.List.{list_any};
@@ -8,7 +8,7 @@ ghost use Rattle.spaces.specs.Sites.{same_origin};
 
 use crate::scan;
 use auth_events::{Entry, Gift, Names};
-use spaces::{Origin, Roster, Scheme, Target, same_origin};
+use spaces::{Origin, Partition, Roster, Scheme, Target, same_origin};
 
 pub fn live(entries: &[Entry], space: u32) -> bool
     ensures { result ≡ Past.live (reverse entries.now) space }
@@ -85,6 +85,13 @@ pub fn is_allowed_origin(roster: &Roster, names: &Names, space: u32) -> bool
     }
 }
 
+/// Whether two partitions have one name.
+fn same_partition(a: &Partition, b: &Partition) -> bool
+    ensures { result ≡ bytes_eq a.now b.now }
+{
+    a.name() == b.name()
+}
+
 /// The space that the entry gives for the first time.
 pub fn first_given(entry: &Entry) -> Option<u32>
     ensures { result ≡ Past.first_given entry.now }
@@ -95,11 +102,17 @@ pub fn first_given(entry: &Entry) -> Option<u32>
     }
 }
 
-/// Whether giving the one space may evict the other: any space may go.
-fn is_rival(_names: &Names, _space: u32, _other: u32) -> bool
-    ensures { result ≡ Book.is_rival _names.now _space _other }
+/// Whether giving the one space may evict the other: both are of one partition.
+fn is_rival(names: &Names, space: u32, other: u32) -> bool
+    ensures { result ≡ Book.is_rival names.now space other }
 {
-    true
+    match (names.space(space), names.space(other)) {
+        (Some(given), Some(other)) => same_partition(
+            &other.site().partition,
+            &given.site().partition,
+        ),
+        _ => false,
+    }
 }
 
 /// Whether the other space is live and may be evicted for the space.

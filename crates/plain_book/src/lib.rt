@@ -5,6 +5,7 @@
 mod allowed;
 mod book;
 mod find;
+mod nonces;
 mod paths;
 mod reply;
 mod scan;

@@ -284,9 +284,10 @@ fn found_in(
     requires { length entries.now < 2 ^ 32 }
     ensures { option_map (found_at roster.now names.now entries.now) result ≡ Book.found_in roster.now names.now (reverse entries.now) (site_seen place.entry) path.now space }
 {
-    if live(entries, space)
-        && (is_basic(names, space) || is_digest(names, space))
+    // The names go first: they cost less than a look at the entries.
+    if (is_basic(names, space) || is_digest(names, space))
         && is_of_site(names, place, space)
+        && live(entries, space)
     {
         best_dir(
             roster,

@@ -1,15 +1,14 @@
-//! The reply to each call, and the nonce that its entry takes out.
+//! The reply to each call.
 
 ghost use Rattle.std.specs.Prelude.{◌≡◌, ◌+◌, ◌^◌, ◌<◌, ◌&&◌, not, reverse, length};
-ghost use Rattle.std.specs.List.{list_any};
 ghost use Rattle.auth_events.specs.Told.{is_pending};
 ghost use Rattle.auth_events.specs.Book as Book;
 ghost use Rattle.auth_events.specs.Past as Past;
 
 use crate::find::{
-    evicted, first_given, has_url_identity, is_allowed_origin, is_negotiate, live, next_gift,
-    nonce_of, target_of,
+    evicted, has_url_identity, is_allowed_origin, is_negotiate, next_gift, target_of,
 };
+use crate::nonces::epoch_of_terms;
 use crate::paths::space_by_path;
 use crate::scan;
 use auth_events::{BookReply, Call, Entry, Gift, Names};
@@ -147,70 +146,6 @@ pub fn answer(names: &Names, entries: &[Entry], prompt: u32, text: u32) -> BookR
     }
 }
 
-/// Whether the space is live and its terms have the nonce.
-fn holds_nonce(names: &Names, entries: &[Entry], nonce: u32, space: u32) -> bool
-    ensures { result ≡ Book.holds_nonce names.now (reverse entries.now) nonce space }
-{
-    let terms = scan::terms(entries, space);
-    live(entries, space) && terms != 0 && nonce_of(names, terms) == nonce
-}
-
-/// Whether a live space that had the nonce before hasn't it afterwards.
-fn is_left(names: &Names, before: &[Entry], afterwards: &[Entry], nonce: u32, space: u32) -> bool
-    ensures { result ≡ Book.is_left names.now (reverse before.now) (reverse afterwards.now) nonce space }
-{
-    holds_nonce(names, before, nonce, space) && !holds_nonce(names, afterwards, nonce, space)
-}
-
-/// Whether the nonce is left by a space.
-fn leaves(names: &Names, before: &[Entry], afterwards: &[Entry], nonce: u32) -> bool
-    ensures { result ≡ list_any (Book.is_left names.now (reverse before.now) (reverse afterwards.now) nonce) (Past.spaces_given (reverse before.now)) }
-{
-    let mut found = false;
-    for entry in before {
-        if let Some(space) = first_given(entry) {
-            if is_left(names, before, afterwards, nonce, space) {
-                found = true;
-            }
-        }
-    }
-    found
-}
-
-/// How many entries have taken the nonce out.
-#[tactic(auto, using(crate::proofs::Backward::epoch_more))]
-pub fn epoch(names: &Names, entries: &[Entry], nonce: u32) -> u32
-    requires { length entries.now < 2 ^ 32 }
-    ensures { result ≡ Book.epoch names.now (reverse entries.now) nonce }
-{
-    let mut count = 0;
-    for at in 0..entries.len() {
-        if leaves(names, &entries[..at], &entries[..at + 1], nonce) {
-            count += 1;
-        }
-    }
-    count
-}
-
-/// The nonce that the last entry takes out of a live space, or 0.
-pub fn nonce_left(names: &Names, before: &[Entry], afterwards: &[Entry]) -> u32
-    ensures { result ≡ Book.nonce_left names.now (reverse before.now) (reverse afterwards.now) }
-{
-    let mut found = None;
-    for entry in before {
-        if let Some(space) = first_given(entry) {
-            let nonce = nonce_of(names, scan::terms(before, space));
-            if is_left(names, before, afterwards, nonce, space) {
-                found = Some(space);
-            }
-        }
-    }
-    match found {
-        Some(space) => nonce_of(names, scan::terms(before, space)),
-        None => 0,
-    }
-}
-
 pub fn is_pending(reply: BookReply) -> bool
     ensures { result ≡ is_pending reply }
 {
@@ -249,17 +184,6 @@ fn ready(names: &Names, entries: &[Entry], space: u32) -> BookReply
             }
         }
         None => BookReply::Nothing,
-    }
-}
-
-fn epoch_of_terms(names: &Names, entries: &[Entry], terms: u32) -> u32
-    requires { length entries.now < 2 ^ 32 }
-    ensures { result ≡ Book.epoch_of_terms names.now (reverse entries.now) terms }
-{
-    if terms == 0 {
-        0
-    } else {
-        epoch(names, entries, nonce_of(names, terms))
     }
 }
 

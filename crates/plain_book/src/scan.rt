@@ -1,7 +1,8 @@
 //! What a past says, found by going over its entries: the definitions' plain program.
 
-ghost use Rattle.std.specs.Prelude.{◌≡◌, ◌^◌, ◌<◌, reverse, length};
+ghost use Rattle.std.specs.Prelude.{◌≡◌, ◌^◌, ◌<◌, reverse, length, find};
 ghost use Rattle.auth_events.specs.Past as Past;
+ghost use Rattle.plain_book.specs.Moves.{changes, sets_terms};
 
 use auth_events::{BookReply, Call, Entry, Gift};
 
@@ -46,19 +47,26 @@ pub fn takes_away(entry: &Entry, space: u32) -> bool
         || space != 0 && evicted_by(entry.reply) == space
 }
 
+/// The latest entry that gave the space or took it away.
+fn latest_change(entries: &[Entry], space: u32) -> Option<Entry>
+    ensures { result ≡ find (λ entry. changes entry space) (reverse entries.now) }
+{
+    entries
+        .iter()
+        .rev()
+        .find(|entry| takes_away(entry, space) || gives(entry, space))
+        .copied()
+}
+
 /// The gift that the space holds.
+#[tactic(auto, using(crate::proofs::Latest::current_latest))]
 pub fn current(entries: &[Entry], space: u32) -> Option<Gift>
     ensures { result ≡ Past.current (reverse entries.now) space }
 {
-    let mut held = None;
-    for entry in entries {
-        if takes_away(entry, space) {
-            held = None;
-        } else if gives(entry, space) {
-            held = gift_given(entry.reply);
-        }
+    match latest_change(entries, space) {
+        Some(entry) if !takes_away(&entry, space) => gift_given(entry.reply),
+        _ => None,
     }
-    held
 }
 
 /// How often the space was given.
@@ -169,17 +177,32 @@ pub fn terms_in(call: Call) -> u32
     }
 }
 
+pub fn is_ready(reply: BookReply) -> bool
+    ensures { result ≡ Past.is_ready reply }
+{
+    matches!(reply, BookReply::Ready { .. })
+}
+
+/// The latest entry that set the terms of the space.
+fn latest_setting(entries: &[Entry], space: u32) -> Option<Entry>
+    ensures { result ≡ find (λ entry. sets_terms entry space) (reverse entries.now) }
+{
+    entries
+        .iter()
+        .rev()
+        .find(|entry| touches(entry, space) && !is_ready(entry.reply))
+        .copied()
+}
+
 /// The terms of a live space.
+#[tactic(auto, using(crate::proofs::Latest::terms_latest))]
 pub fn terms(entries: &[Entry], space: u32) -> u32
     ensures { result ≡ Past.terms (reverse entries.now) space }
 {
-    let mut terms = 0;
-    for entry in entries {
-        if touches(entry, space) && !matches!(entry.reply, BookReply::Ready { .. }) {
-            terms = terms_in(entry.call);
-        }
+    match latest_setting(entries, space) {
+        Some(entry) => terms_in(entry.call),
+        None => 0,
     }
-    terms
 }
 
 /// The entry that led the prompt.

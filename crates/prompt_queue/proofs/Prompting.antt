@@ -15,7 +15,7 @@ use Rattle.auth_events.specs.declared.journal.BookReply.TheVariants.{Lead, Given
 use Rattle.auth_events.specs.Tables.{Tables}
 use Rattle.auth_events.specs.Past.{is_lead, prompt_led, selects, settles, settled, lead, open_lead, leads, leads_of, taken_from, end}
 use Rattle.auth_events.specs.Book.{Choice, IsStep, IsLegalPast, allowed_call, answer, begins, no_entry, is_open, is_led_by, is_rival, first_choice, select_answer, terms_selected, choice}
-use Rattle.auth_events.specs.Book.Choice.{By_url, By_cache, By_default, By_following, By_leading}
+use Rattle.auth_events.specs.Book.Choice.{ByUrl, ByCache, ByDefault, ByFollowing, ByLeading}
 use Rattle.auth_events.proofs.Numbers.{and_left, and_right, some_of_test}
 use Rattle.prompt_queue.specs.Prompts.{is_pending, is_open_in, open_prompt, led_in, prompt_of, joined, joined_to}
 use Rattle.prompt_queue.specs.Histories.{reply_joined, taken_by, prompt_in, prompts_of}
@@ -100,11 +100,11 @@ joins roster names past legal is_rival s =
 -- NUMBERS OF PROMPTS
 
 led_next : (is_rival : ℕ → Bool) (past : List Entry) (s : ℕ) (how : Choice) (reply : BookReply) → reply ≡ select_answer is_rival past s how → is_lead reply ≡ true → prompt_led reply ≡ leads past + 1
-led_next is_rival past s By_url reply is led = absurd (false≢true (ap is_lead (sym is) ∙ led))
-led_next is_rival past s (By_cache gift) reply is led = absurd (false≢true (ap is_lead (sym is) ∙ led))
-led_next is_rival past s By_default reply is led = absurd (false≢true (ap is_lead (sym is) ∙ led))
-led_next is_rival past s (By_following p) reply is led = absurd (false≢true (ap is_lead (sym is) ∙ led))
-led_next is_rival past s By_leading reply is led = ap prompt_led is
+led_next is_rival past s ByUrl reply is led = absurd (false≢true (ap is_lead (sym is) ∙ led))
+led_next is_rival past s (ByCache gift) reply is led = absurd (false≢true (ap is_lead (sym is) ∙ led))
+led_next is_rival past s ByDefault reply is led = absurd (false≢true (ap is_lead (sym is) ∙ led))
+led_next is_rival past s (ByFollowing p) reply is led = absurd (false≢true (ap is_lead (sym is) ∙ led))
+led_next is_rival past s ByLeading reply is led = ap prompt_led is
 
 pub lead_number : (roster : Roster) (names : Tables) (past : List Entry) (entry : Entry) → IsStep roster names past entry → is_lead entry.reply ≡ true → prompt_led entry.reply ≡ leads past + 1
 lead_number roster names past entry step led =

@@ -99,6 +99,22 @@ impl PromptQueue {
         Ok(())
     }
 
+    /// How a request would join the space: the open prompt that it would follow, or the one that it
+    /// would lead. It changes nothing.
+    pub fn joining(&self, space: u32) -> Joined
+        requires added { space < self.now.spaces }
+        requires room { length self.now.prompts < 32 * self.now.requests }
+        ensures { result ≡ joined self.now.prompts space }
+    {
+        match open_number(self.rows.as_slice(), self.prompts.as_slice(), space) {
+            Some(open) => Joined::Follow { prompt: open },
+            None => Joined::Lead {
+                prompt: self.prompts.len() as u32 + 1,
+                ordinal: self.rows[space as usize].led + 1,
+            },
+        }
+    }
+
     /// Joins the space's open prompt, or leads a new one. It takes no memory.
     pub fn open_or_join(&mut self, space: u32, request: u32) -> Joined
         requires added { space < self.old.spaces }
@@ -164,6 +180,14 @@ impl PromptQueue {
         self.prompts[at].ending = outcome;
     }
 
+    /// What the prompt has for those who wait. It changes nothing.
+    pub fn ending(&self, prompt: u32) -> PromptTake
+        requires { IsTrue (is_some (prompt_of self.now.prompts prompt)) }
+        ensures { ending_of self.now.prompts prompt ≡ Some result }
+    {
+        self.prompts[place(self.prompts.as_slice(), prompt)].ending
+    }
+
     /// What the prompt has for the request, whichever of those who wait it is. It changes nothing, so
     /// each takes the same.
     pub fn take(&mut self, prompt: u32, request: u32) -> PromptTake
@@ -171,7 +195,7 @@ impl PromptQueue {
         ensures taken { ending_of self.old.prompts prompt ≡ Some result }
         ensures same { self.new ≡ self.old }
     {
-        self.prompts[place(self.prompts.as_slice(), prompt)].ending
+        self.ending(prompt)
     }
 }
 

@@ -37,6 +37,7 @@ fn all_take_the_one_answer(rt: HostRuntime) -> Result<(), Fail> {
     ] {
         let mut queue = shared(&rt, rt.alloc())?;
         queue.answer(1, ordinal);
+        assert_eq!(rt; queue.ending(1), wanted);
         assert_eq!(rt; queue.take(1, 3), wanted);
         assert_eq!(rt; queue.take(1, 2), wanted);
     }
@@ -54,13 +55,12 @@ fn an_answer_is_kept_for_those_who_come_late(rt: HostRuntime) -> Result<(), Fail
     let mut queue = shared(&rt, rt.alloc())?;
     queue.answer(1, 1);
     queue.add_space(4)?;
-    assert_eq!(rt;
-        queue.open_or_join(1, 1),
-        Joined::Lead {
-            prompt: 2,
-            ordinal: 2
-        }
-    );
+    let leads = Joined::Lead {
+        prompt: 2,
+        ordinal: 2,
+    };
+    assert_eq!(rt; queue.joining(1), leads);
+    assert_eq!(rt; queue.open_or_join(1, 1), leads);
     assert_eq!(rt;
         queue.open_or_join(4, 2),
         Joined::Lead {

@@ -1,5 +1,5 @@
 -- The forms of a line.
-use Rattle.std.specs.Prelude.{ℕ, Bool, true, ◌==◌, ◌&&◌, List, [], ◌∷◌, codes, bytes_eq, Option, Some, None, Result, Ok, Err, if◌then◌else◌}
+use Rattle.std.specs.Prelude.{ℕ, Bool, true, false, ◌==◌, drop, ◌&&◌, List, [], ◌∷◌, codes, bytes_eq, Option, Some, None, Result, Ok, Err, if◌then◌else◌}
 use Rattle.auth_text.specs.Login.{Login, login}
 use Rattle.spaces.specs.Places.{place}
 use Rattle.spaces.specs.declared.place.Origin.{Origin}
@@ -124,15 +124,24 @@ keyed key more =
     else if bytes_eq key (codes "workers") then workers more
     else if bytes_eq key (codes "default") then default more
     else if bytes_eq key (codes "request") then request more
-    else if bytes_eq key (codes "link") then link more
-    else if bytes_eq key (codes "token") then token more
     else if bytes_eq key (codes "answer") then answer more
     else Err Bad
 
+-- the first word is this one
+abbrev pub is_keyed : List (List ℕ) → List ℕ → Bool
+is_keyed [] word = false
+is_keyed (key ∷ more) word = bytes_eq key word
+
+abbrev pub other : List (List ℕ) → Result Line LineFault
+other [] = Err Bad
+other (key ∷ more) = keyed key more
+
 -- a line of these words
 unfoldable pub form : List (List ℕ) → Result Line LineFault
-form [] = Err Bad
-form (key ∷ more) = keyed key more
+form values =
+    if is_keyed values (codes "link") then link (drop 1 values)
+    else if is_keyed values (codes "token") then token (drop 1 values)
+    else other values
 
 -- a line that is passed over: empty, or begun by `#`
 abbrev pub is_passed : List ℕ → Bool

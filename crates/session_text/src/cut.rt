@@ -1,7 +1,9 @@
 //! Texts cut at a byte: lines at line ends, words at spaces. Each byte is looked at once.
 
-ghost use Rattle.std.specs.Prelude.{◌≡◌, ◌≤◌, ◌+◌, ◌==◌, length, take, drop};
+ghost use Rattle.std.specs.Prelude.{◌≡◌, ◌≤◌, ◌+◌, ◌==◌, length, drop};
 ghost use Rattle.std.specs.List.{position_or_len};
+
+use auth_text::rest_of;
 
 /// How many bytes stand before the first such byte; all of them, where there is none.
 pub fn first_len(bytes: &[u8], byte: u8) -> usize
@@ -14,22 +16,6 @@ pub fn first_len(bytes: &[u8], byte: u8) -> usize
         }
     }
     bytes.len()
-}
-
-/// The first n bytes.
-pub fn front_of(text: &[u8], n: usize) -> &[u8]
-    requires { n ≤ length text.now }
-    ensures { result.now ≡ take n text.now }
-{
-    &text[..n]
-}
-
-/// What stands behind the first n bytes.
-pub fn rest_of(text: &[u8], n: usize) -> &[u8]
-    requires { n ≤ length text.now }
-    ensures { result.now ≡ drop n text.now }
-{
-    &text[n..]
 }
 
 /// What stands behind the first n bytes and one more.

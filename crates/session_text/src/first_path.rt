@@ -8,11 +8,11 @@ ghost use Rattle.spaces.specs.Partitions.{partition};
 ghost use Rattle.session_text.specs.Cuts.{lines};
 ghost use Rattle.session_text.specs.FirstPath as spec;
 
-use crate::cut::{behind, first_len, front_of};
+use crate::cut::{behind, first_len};
 use crate::first_path_parts::{host_in, is_challenge, is_plain_url, realm_in};
 use crate::line::LineFault;
 use crate::values::values_of;
-use auth_text::{Bytes, Identity, IdentityFault, Items, NoMemory};
+use auth_text::{Bytes, Identity, IdentityFault, Items, NoMemory, front_of};
 use spaces::{Partition, PartitionFault};
 use std::alloc::Global;
 

@@ -6,8 +6,8 @@ ghost use Rattle.std.specs.List.{list_all};
 ghost use Rattle.std.specs.Char.{is_ascii_lowercase};
 ghost use Rattle.session_text.specs.FirstPath as spec;
 
-use crate::cut::{first_len, front_of, rest_of};
-use auth_text::{Bytes, NoMemory};
+use crate::cut::first_len;
+use auth_text::{Bytes, NoMemory, front_of, rest_of};
 use std::alloc::Global;
 
 const CHALLENGE_START: &[u8] = b"HTTP/1.1 401 Unauthorized\r\nWWW-Authenticate: Basic realm=\"";

@@ -7,8 +7,6 @@ mod first_path;
 mod first_path_parts;
 mod line;
 mod session;
-#[cfg(test)]
-mod tests;
 mod values;
 mod word;
 

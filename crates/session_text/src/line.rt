@@ -1,7 +1,7 @@
 //! The forms of a line: each line is read by itself, to a value that says what it means. Whether it
 //! may stand where it stands is for the reading of the session to judge.
 
-ghost use Rattle.std.specs.Prelude.{◌≡◌, Ok, IfOk, IsTrue};
+ghost use Rattle.std.specs.Prelude.{◌≡◌, Ok, IfOk, IsTrue, drop};
 ghost use Rattle.auth_text.specs.Gives.{GivesBy};
 ghost use Rattle.auth_text.specs.Login.{login};
 ghost use Rattle.spaces.specs.Places.{place};
@@ -9,15 +9,17 @@ ghost use Rattle.spaces.specs.Partitions.{partition};
 ghost use Rattle.spaces.specs.ProtectionSpaces.{has_realm};
 ghost use Rattle.session_text.specs.Forms as spec;
 ghost use Rattle.session_text.specs.Forms.{or_bad};
+ghost use Rattle.session_text.specs.Played.{IsRight};
 
 use crate::values::{number_of, values_of};
-use auth_text::{Bytes, Identity, IdentityFault};
+use auth_text::{Bytes, Identity, IdentityFault, Items};
 use link_trait::Step;
 use spaces::{
     Method, Origin, Partition, PartitionFault, Place, PlaceFault, Request, Scheme, Site, Space,
     Target, place_of,
 };
 use std::alloc::Global;
+use thiserror::Error;
 
 /// What a line means.
 #[derive(Debug, Drop)]
@@ -41,10 +43,12 @@ pub enum Line {
 }
 
 /// Why a line has no meaning.
-#[derive(Clone, Copy, Debug, PartialEq, Eq)]
+#[derive(Clone, Copy, Debug, PartialEq, Eq, Error)]
 pub enum LineFault {
     /// It has none of the forms.
+    #[error("none of the forms of a line")]
     Bad,
+    #[error("no memory")]
     NoMemory,
 }
 
@@ -58,7 +62,8 @@ fn copy(alloc: Global, bytes: &[u8]) -> Result<Bytes, LineFault>
 }
 
 fn place_in(alloc: Global, url: &[u8]) -> Result<Place, LineFault>
-    ensures { GivesBy LineFault.NoMemory (λ p. p) result (or_bad (place url.now)) }
+    ensures value { GivesBy LineFault.NoMemory (λ p. p) result (or_bad (place url.now)) }
+    ensures again { IfOk result (λ p. place p.text ≡ Ok p) }
 {
     match place_of(alloc, url) {
         Ok(place) => Ok(place),
@@ -135,7 +140,8 @@ fn scheme_of(word: &[u8], realm: &[u8]) -> Result<Scheme, LineFault>
 }
 
 fn header(more: &[Bytes]) -> Result<Line, LineFault>
-    ensures { result ≡ spec.header more.now }
+    ensures value { result ≡ spec.header more.now }
+    ensures right { IfOk result IsRight }
 {
     match more {
         [version] if version.as_slice() == b"1".as_slice() => Ok(Line::Header),
@@ -144,7 +150,8 @@ fn header(more: &[Bytes]) -> Result<Line, LineFault>
 }
 
 fn workers(more: &[Bytes]) -> Result<Line, LineFault>
-    ensures { result ≡ spec.workers more.now }
+    ensures value { result ≡ spec.workers more.now }
+    ensures right { IfOk result IsRight }
 {
     match more {
         [n] => Ok(Line::Workers(number_of(n.as_slice())?)),
@@ -153,7 +160,8 @@ fn workers(more: &[Bytes]) -> Result<Line, LineFault>
 }
 
 fn default(alloc: Global, more: &[Bytes]) -> Result<Line, LineFault>
-    ensures { GivesBy LineFault.NoMemory (λ l. l) result (spec.default more.now) }
+    ensures value { GivesBy LineFault.NoMemory (λ l. l) result (spec.default more.now) }
+    ensures right { IfOk result IsRight }
 {
     match more {
         [url] => Ok(Line::Default(origin_in(alloc, url.as_slice())?)),
@@ -169,7 +177,8 @@ fn requested(
     url: &[u8],
     proxy: Option<Origin>,
 ) -> Result<Line, LineFault>
-    ensures { GivesBy LineFault.NoMemory (λ l. l) result (spec.requested method.now name.now url.now proxy) }
+    ensures value { GivesBy LineFault.NoMemory (λ l. l) result (spec.requested method.now name.now url.now proxy) }
+    ensures right { IfOk result IsRight }
 {
     let method = method_of(method)?;
     let partition = partition_in(alloc, name)?;
@@ -183,7 +192,8 @@ fn requested(
 }
 
 fn request(alloc: Global, more: &[Bytes]) -> Result<Line, LineFault>
-    ensures { GivesBy LineFault.NoMemory (λ l. l) result (spec.request more.now) }
+    ensures value { GivesBy LineFault.NoMemory (λ l. l) result (spec.request more.now) }
+    ensures right { IfOk result IsRight }
 {
     match more {
         [method, name, url] => {
@@ -212,17 +222,9 @@ fn request(alloc: Global, more: &[Bytes]) -> Result<Line, LineFault>
     }
 }
 
-fn link(alloc: Global, more: &[Bytes]) -> Result<Line, LineFault>
-    ensures { GivesBy LineFault.NoMemory (λ l. l) result (spec.link more.now) }
-{
-    match more {
-        [bytes] => Ok(Line::Link(copy(alloc, bytes.as_slice())?)),
-        _ => Err(LineFault::Bad),
-    }
-}
-
 fn step_of(word: &[u8]) -> Result<Line, LineFault>
-    ensures { result ≡ spec.step_of word.now }
+    ensures value { result ≡ spec.step_of word.now }
+    ensures right { IfOk result IsRight }
 {
     if word == b"done".as_slice() {
         return Ok(Line::Token(Step::Done));
@@ -236,16 +238,38 @@ fn step_of(word: &[u8]) -> Result<Line, LineFault>
     Err(LineFault::Bad)
 }
 
-fn token(alloc: Global, more: &[Bytes]) -> Result<Line, LineFault>
-    ensures { GivesBy LineFault.NoMemory (λ l. l) result (spec.token more.now) }
+/// The stream is taken and not copied, since it may be most of the text.
+#[tactic(auto, using(crate::proofs::LineLemmas::link_of_two, crate::proofs::LineLemmas::no_link))]
+fn link(values: Items<Bytes>) -> Result<Line, LineFault>
+    ensures value { result ≡ spec.link (drop 1 values) }
+    ensures right { IfOk result IsRight }
 {
-    match more {
-        [word] => step_of(word.as_slice()),
-        [word, value] => {
+    let mut values = values;
+    let Some(bytes) = values.pop() else {
+        return Err(LineFault::Bad);
+    };
+    if values.len() == 1 {
+        return Ok(Line::Link(bytes));
+    }
+    Err(LineFault::Bad)
+}
+
+/// A token that is given by its bytes, which are taken too.
+fn token(values: Items<Bytes>) -> Result<Line, LineFault>
+    ensures value { result ≡ spec.token (drop 1 values) }
+    ensures right { IfOk result IsRight }
+{
+    let mut values = values;
+    let Some(last) = values.pop() else {
+        return Err(LineFault::Bad);
+    };
+    match values.as_slice() {
+        [_] => step_of(last.as_slice()),
+        [_, word] => {
             if word.as_slice() != b"bytes".as_slice() {
                 return Err(LineFault::Bad);
             }
-            Ok(Line::Token(Step::Token(copy(alloc, value.as_slice())?)))
+            Ok(Line::Token(Step::Token(last)))
         }
         _ => Err(LineFault::Bad),
     }
@@ -296,7 +320,8 @@ fn gift(alloc: Global, more: &[Bytes]) -> Result<Option<Identity>, LineFault>
 }
 
 fn answer(alloc: Global, more: &[Bytes]) -> Result<Line, LineFault>
-    ensures { GivesBy LineFault.NoMemory (λ l. l) result (spec.answer more.now) }
+    ensures value { GivesBy LineFault.NoMemory (λ l. l) result (spec.answer more.now) }
+    ensures right { IfOk result IsRight }
 {
     match more {
         [name, target, url, scheme, realm, more @ ..] => {
@@ -315,11 +340,27 @@ fn answer(alloc: Global, more: &[Bytes]) -> Result<Line, LineFault>
     }
 }
 
-#[tactic(auto, unfolding(crate::specs::Forms::form))]
-fn form(alloc: Global, values: &[Bytes]) -> Result<Line, LineFault>
-    ensures { GivesBy LineFault.NoMemory (λ l. l) result (spec.form values.now) }
+fn is_keyed(values: &[Bytes], word: &[u8]) -> bool
+    ensures { result ≡ spec.is_keyed values.now word.now }
 {
     match values {
+        [] => false,
+        [key, ..] => key.as_slice() == word,
+    }
+}
+
+#[tactic(auto, unfolding(crate::specs::Forms::form))]
+fn form(alloc: Global, values: Items<Bytes>) -> Result<Line, LineFault>
+    ensures value { GivesBy LineFault.NoMemory (λ l. l) result (spec.form values) }
+    ensures right { IfOk result IsRight }
+{
+    if is_keyed(values.as_slice(), b"link") {
+        return link(values);
+    }
+    if is_keyed(values.as_slice(), b"token") {
+        return token(values);
+    }
+    match values.as_slice() {
         [] => Err(LineFault::Bad),
         [key, more @ ..] => keyed(alloc, key.as_slice(), more),
     }
@@ -327,7 +368,8 @@ fn form(alloc: Global, values: &[Bytes]) -> Result<Line, LineFault>
 
 #[tactic(auto, unfolding(crate::specs::Forms::keyed))]
 fn keyed(alloc: Global, key: &[u8], more: &[Bytes]) -> Result<Line, LineFault>
-    ensures { GivesBy LineFault.NoMemory (λ l. l) result (spec.keyed key.now more.now) }
+    ensures value { GivesBy LineFault.NoMemory (λ l. l) result (spec.keyed key.now more.now) }
+    ensures right { IfOk result IsRight }
 {
     if key == b"authfetch".as_slice() {
         return header(more);
@@ -340,12 +382,6 @@ fn keyed(alloc: Global, key: &[u8], more: &[Bytes]) -> Result<Line, LineFault>
     }
     if key == b"request".as_slice() {
         return request(alloc, more);
-    }
-    if key == b"link".as_slice() {
-        return link(alloc, more);
-    }
-    if key == b"token".as_slice() {
-        return token(alloc, more);
     }
     if key == b"answer".as_slice() {
         return answer(alloc, more);
@@ -362,13 +398,15 @@ fn is_passed(text: &[u8]) -> bool
     }
 }
 
-/// Reads a line.
+/// Reads a line. The place of a request is the one that its text reads as, and a provider's step is an
+/// answer.
 pub fn read_line(alloc: Global, text: &[u8]) -> Result<Line, LineFault>
-    ensures { GivesBy LineFault.NoMemory (λ l. l) result (spec.line text.now) }
+    ensures value { GivesBy LineFault.NoMemory (λ l. l) result (spec.line text.now) }
+    ensures right { IfOk result IsRight }
 {
     if is_passed(text) {
         return Ok(Line::Passed);
     }
     let values = values_of(alloc, text)?;
-    form(alloc, values.as_slice())
+    form(alloc, values)
 }

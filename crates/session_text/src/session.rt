@@ -1,17 +1,22 @@
 //! The session: its lines are read once, in order, and each is judged by those before it.
 
-ghost use Rattle.std.specs.Prelude.{◌≡◌, ◌≤◌, ◌++◌, ◌∷◌, [], length, IfOk, None, Some, if◌then◌else◌};
+ghost use Rattle.std.specs.Prelude.{◌≡◌, ◌≤◌, ◌++◌, ◌∷◌, [], length, All, IfOk, IsTrue, None, Some, if◌then◌else◌};
 ghost use Rattle.auth_text.specs.Gives.{GivesBy};
+ghost use Rattle.link_trait.specs.Tokens.{are_answered};
+ghost use Rattle.spaces.specs.Places.{IsPlaced};
 ghost use Rattle.spaces.specs.declared.roster.Request.{Request};
+ghost use Rattle.session_text.specs.Played.{IsPlayable};
 ghost use Rattle.session_text.specs.Readings as spec;
 ghost use Rattle.session_text.specs.Sessions.{session};
 
-use crate::cut::{behind, first_len, front_of};
+use crate::cut::{behind, first_len};
 use crate::line::{Line, LineFault, read_line};
-use auth_text::{Items, NoMemory};
+use auth_text::{Items, NoMemory, front_of};
 use link_trait::{Answers, Links, Steps};
 use spaces::{Origins, Requests, Roster};
 use std::alloc::Global;
+use std::fmt;
+use thiserror::Error;
 
 /// What there may be too much of.
 #[derive(Clone, Copy, Debug, PartialEq, Eq)]
@@ -24,14 +29,27 @@ pub enum What {
     Workers,
 }
 
+impl fmt::Display for What {
+    fn fmt<W: fmt::Write>(&self, f: &mut fmt::Formatter<W>) -> fmt::Result {
+        f.write_str(match self {
+            What::Bytes => "bytes",
+            What::Requests => "requests",
+            What::Workers => "workers",
+        })
+    }
+}
+
 /// Why a text is no session: what its first line at fault, counted from 1, is at fault by.
-#[derive(Clone, Copy, Debug, PartialEq, Eq)]
+#[derive(Clone, Copy, Debug, PartialEq, Eq, Error)]
 pub enum SessionFault {
     /// The line has none of the forms, or may not stand there.
+    #[error("bad line {line}")]
     BadLine { line: u32 },
     /// The line is the 2,049th request, or asks for more than 16 workers. The number is 2,049, or
     /// that of the workers.
+    #[error("too large: {number} {what}")]
     TooMany { what: What, number: u32 },
+    #[error("no memory")]
     NoMemory,
 }
 
@@ -155,7 +173,8 @@ fn after_text(
     reading: Reading,
     text: &[u8],
 ) -> Result<Reading, SessionFault>
-    ensures { GivesBy SessionFault.NoMemory (λ r. r) result (spec.after_text number reading text.now) }
+    ensures value { GivesBy SessionFault.NoMemory (λ r. r) result (spec.after_text number reading text.now) }
+    ensures playable { IsPlayable reading → IfOk result IsPlayable }
 {
     let line = match read_line(alloc, text) {
         Ok(line) => line,
@@ -185,10 +204,13 @@ fn finished(reading: Reading) -> Session
 
 /// Reads a session. The first line at fault decides: `TooMany` where it is the 2,049th request or
 /// asks for more than 16 workers, else `BadLine`. A text without any line that says something is at
-/// fault behind its last line.
+/// fault behind its last line. The place of each request is the one that its text reads as, and no step
+/// of a provider is a failure or want of memory.
 pub fn read_session(alloc: Global, text: &[u8]) -> Result<Session, SessionFault>
     requires { length text.now ≤ 4194304 }
-    ensures { GivesBy SessionFault.NoMemory (λ s. s) result (session text.now) }
+    ensures session { GivesBy SessionFault.NoMemory (λ s. s) result (session text.now) }
+    ensures placed { IfOk result (λ s. All IsPlaced s.roster.requests) }
+    ensures answered { IfOk result (λ s. IsTrue (are_answered s.steps)) }
 {
     let mut reading = Reading {
         begun: false,

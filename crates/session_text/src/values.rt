@@ -8,17 +8,11 @@ ghost use Rattle.session_text.specs.Words.{word_value};
 ghost use Rattle.session_text.specs.Forms.{number_of};
 ghost use Rattle.session_text.specs.Cuts.{number, values, is_numeral};
 
-use crate::cut::{first_len, front_of, rest_of};
+use crate::cut::first_len;
 use crate::line::LineFault;
 use crate::word::read_word;
-use auth_text::{Bytes, Items};
+use auth_text::{Bytes, Items, are_digits, front_of, rest_of};
 use std::alloc::Global;
-
-fn are_digits(word: &[u8]) -> bool
-    ensures { result ≡ list_all is_ascii_digit word.now }
-{
-    word.iter().all(|b| b.is_ascii_digit())
-}
 
 fn is_numeral(word: &[u8]) -> bool
     ensures { result ≡ is_numeral word.now }

@@ -18,18 +18,19 @@ same_qop Auth Auth = true
 same_qop Missing Missing = true
 same_qop _ _ = false
 
-abbrev pub same_said : Bool → Bool → Bool
-same_said true true = true
-same_said false false = true
-same_said _ _ = false
+abbrev pub same_flag : Bool → Bool → Bool
+same_flag true true = true
+same_flag false false = true
+same_flag _ _ = false
 
 abbrev pub same_opaque : Option (List ℕ) → Option (List ℕ) → Bool
 same_opaque None None = true
 same_opaque (Some a) (Some b) = bytes_eq a b
 same_opaque _ _ = false
 
--- all parts are the same: also whether the algorithm was said
+-- all parts are the same: also whether the algorithm was said, and whether user names are hashed
 abbrev pub same_terms : Terms → Terms → Bool
 same_terms a b =
-    same_algorithm a.algorithm b.algorithm && same_said a.said b.said && bytes_eq a.realm b.realm && bytes_eq a.nonce b.nonce
-    && same_opaque a.opaque b.opaque && same_qop a.qop b.qop
+    same_algorithm a.algorithm b.algorithm && same_flag a.said b.said
+    && bytes_eq a.realm b.realm && bytes_eq a.nonce b.nonce
+    && same_opaque a.opaque b.opaque && same_qop a.qop b.qop && same_flag a.userhash b.userhash

@@ -1,5 +1,5 @@
 -- What a place is: the parts of an http URL, by the URL Standard.
-use Rattle.std.specs.Prelude.{ℕ, List, [], codes, bytes_eq, Option, None, unwrap_or, option_map, Result, Ok, Err, if◌then◌else◌, ◌&&◌}
+use Rattle.std.specs.Prelude.{◌≡◌, ℕ, List, [], codes, bytes_eq, Option, None, unwrap_or, option_map, Result, Ok, Err, if◌then◌else◌, ◌&&◌}
 use Rattle.std.specs.Str.{is_utf8}
 use Rattle.std.specs.Result.{result_ok}
 use Rattle.percent_encoding.specs.Percent.{percent_decode}
@@ -12,6 +12,7 @@ use Rattle.url.specs.Host.{host_text}
 use Rattle.spaces.specs.declared.place.Place.{Place}
 use Rattle.spaces.specs.declared.place.PlaceFault.{PlaceFault}
 use Rattle.spaces.specs.declared.place.PlaceFault.TheVariants.{BadUrl, NotHttp}
+use Rattle.spaces.specs.declared.roster.Request.{Request}
 
 -- an http URL
 abbrev pub if_http : Result Parts ParseError → Result Parts PlaceFault
@@ -47,3 +48,7 @@ if_url (Err e) = Err e
 -- the place that the bytes are
 abbrev pub place : List ℕ → Result Place PlaceFault
 place text = if_url (http_url text)
+
+-- the request's place is the one that its text reads as
+abbrev pub IsPlaced : Request → Type 0
+IsPlaced request = place request.place.text ≡ Ok request.place

@@ -1,7 +1,13 @@
--- What a request line names (RFC 7230, section 5.3).
+-- The method of a request line, and what the line names (RFC 7230, section 5.3).
 use Rattle.std.specs.Prelude.{ℕ, Bool, ◌==◌, List, [], ◌∷◌, ◌++◌, codes, decimal, Option, Some, None, if◌then◌else◌}
+use Rattle.spaces.specs.declared.roster.Method.{Method}
+use Rattle.spaces.specs.declared.roster.Method.TheVariants.{Get, Head}
 use Rattle.spaces.specs.declared.place.Origin.{Origin}
 use Rattle.spaces.specs.declared.place.Place.{Place}
+
+abbrev pub method_name : Method → List ℕ
+method_name Get = codes "GET"
+method_name Head = codes "HEAD"
 
 -- `:` and the port, unless it is http's own
 abbrev pub port_text : ℕ → List ℕ

@@ -10,7 +10,7 @@ ghost use Rattle.url.specs.Parts.{IsValid};
 use auth_text::{Bytes, Identity, IdentityFault};
 use percent_encoding::percent_decode;
 use std::alloc::Global;
-use std::str;
+use std::{fmt, str};
 use thiserror::Error;
 use url::{ParseError, Url};
 
@@ -37,7 +37,7 @@ pub struct Origin {
 }
 
 /// An http URL, taken apart.
-#[derive(Clone, Debug, Drop, PartialEq, Eq)]
+#[derive(Clone, Drop, PartialEq, Eq)]
 pub struct Place {
     /// The URL as the URL standard writes it.
     pub text: Bytes,
@@ -47,6 +47,18 @@ pub struct Place {
     pub query: Option<Bytes>,
     /// The percent-decoded user and password, where one isn't empty and `Identity` takes them.
     pub identity: Option<Identity>,
+}
+
+/// `{:?}` leaves the text out, since it has the password of the URL.
+impl fmt::Debug for Place {
+    fn fmt<W: fmt::Write>(&self, f: &mut fmt::Formatter<W>) -> fmt::Result {
+        f.debug_struct("Place")
+            .field("origin", &self.origin)
+            .field("path", &self.path)
+            .field("query", &self.query)
+            .field("identity", &self.identity)
+            .finish_non_exhaustive()
+    }
 }
 
 fn url_of(alloc: Global, text: &[u8]) -> Result<Url, PlaceFault>

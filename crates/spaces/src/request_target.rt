@@ -8,7 +8,8 @@ use auth_text::{Bytes, NoMemory};
 use itoa::Buffer;
 use std::alloc::Global;
 
-fn push_port(out: &mut Bytes, port: u16) -> Result<(), NoMemory>
+/// Adds `:` and the port, unless it is http's own, 80.
+pub fn push_port(out: &mut Bytes, port: u16) -> Result<(), NoMemory>
     ensures { OnOk result (out.new ≡ out.old ++ port_text port) }
 {
     if port == 80 {

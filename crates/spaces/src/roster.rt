@@ -1,6 +1,7 @@
 //! The roster: all requests of a session, and the origins that get the default identity unasked.
 
 ghost use Rattle.std.specs.Prelude.{◌≡◌, ◌++◌, ◌∷◌, [], Some, length, slice_get, IfOk, IfErr, IsTrue, MatchOption, OnErr, OnOk, option_copied};
+ghost use Rattle.spaces.specs.RequestTargets.{method_name};
 ghost use Rattle.spaces.specs.Sites.{is_routed, numbered, site_of};
 
 use crate::partition::Partition;
@@ -15,6 +16,18 @@ use std::marker::Model;
 pub enum Method {
     Get,
     Head,
+}
+
+impl Method {
+    /// The name that a request line has (RFC 7231 section 4.1).
+    pub fn name(self) -> &'static [u8]
+        ensures { result.now ≡ method_name self }
+    {
+        match self {
+            Method::Get => b"GET",
+            Method::Head => b"HEAD",
+        }
+    }
 }
 
 /// A request: what to fetch, in which partition, and by which proxy, if by one.

@@ -32,6 +32,8 @@ pub struct Terms {
     pub nonce: Bytes,
     pub opaque: Option<Bytes>,
     pub qop: Qop,
+    /// The user name is to be sent hashed (RFC 7616 section 3.4.4).
+    pub userhash: bool,
 }
 
 fn same_algorithm(a: Algorithm, b: Algorithm) -> bool
@@ -70,4 +72,5 @@ pub fn same_terms(a: &Terms, b: &Terms) -> bool
         && same_bytes(a.nonce.as_slice(), b.nonce.as_slice())
         && same_opaque(&a.opaque, &b.opaque)
         && same_qop(a.qop, b.qop)
+        && a.userhash == b.userhash
 }

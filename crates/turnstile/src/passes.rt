@@ -1,10 +1,10 @@
 //! The passes of a turnstile as a list. It keeps its room, so that a pass that was taken out can always be put back.
-ghost use Rattle.std.specs.Prelude.{◌≡◌, ◌<◌, ◌≤◌, [], ◌∷◌, ◌++◌, length, slice_get, MatchOption, OnSome, OnOk, OnErr, IfErr, IsOk};
+ghost use Rattle.std.specs.Prelude.{◌≡◌, ◌<◌, ◌≤◌, [], ◌∷◌, ◌++◌, length, slice_get, MatchOption, OnSome, OnOk, OnErr, IfErr, IfOk, IsOk};
 ghost use Rattle.std.specs.Option.{option_copied};
 
 use crate::pass::Pass;
 use crate::told::Told;
-use std::alloc::{AllocFailed, Global};
+use std::alloc::{AllocError, AllocFailed, Global};
 use std::marker::Model;
 
 /// A list of passes. Contracts see the list and, beside it, its room: how many it holds without asking for memory.
@@ -30,6 +30,16 @@ impl<S: Told> Passes<S> {
         Passes {
             list: Vec::new(alloc),
         }
+    }
+
+    /// An empty list with room for this many passes: so many can be put into it without fail. An `Err`
+    /// is want of memory.
+    pub fn with_capacity(alloc: Global, capacity: usize) -> Result<Passes<S>, AllocError>
+        ensures empty { IfOk result (λ passes. passes.list ≡ []) }
+        ensures room { IfOk result (λ passes. capacity ≤ passes.room) }
+    {
+        let list = Vec::with_capacity(alloc, capacity)?;
+        Ok(Passes { list })
     }
 
     /// How many passes there are.

@@ -89,6 +89,7 @@ fn two_threads_take_a_thousand_turns_each(rt: HostRuntime) -> Result<(), Fail> {
 
 #[test]
 fn a_pass_comes_back_in_another_list(rt: HostRuntime) -> Result<(), Fail> {
+    let mut back = Passes::with_capacity(rt.alloc(), 1)?;
     let list = Vec::with_capacity(rt.alloc(), 2)?;
     let notes = Notes::new(3, list);
     let Ok((lock, mut passes)) = Turnstile::new(rt.alloc(), notes, 1) else {
@@ -100,10 +101,9 @@ fn a_pass_comes_back_in_another_list(rt: HostRuntime) -> Result<(), Fail> {
     let (notes, inside) = lock.enter(&rt, pass);
     assert!(rt; notes.label == 3 && notes.length() == 1);
     let pass = lock.leave(inside, notes);
-    let mut back = Passes::new(rt.alloc());
-    back.push(pass)
-        .map_err(AllocError::from)
-        .expect(&rt, "memory");
+    let Ok(()) = back.push(pass) else {
+        unreachable!()
+    };
     assert!(rt; back.len() == 1 && back.get(0).is_some() && back.get(1).is_none());
     let notes = lock.close(back);
     assert!(rt; notes.label == 3 && counted_up(&notes, 1) == Some(1));

@@ -7,7 +7,8 @@ use Rattle.std.proofs.lemmas.List.Elements.{All-head, All-tail}
 use Rattle.std.proofs.lemmas.List.Sums.{AllPass-from_list_all}
 use Rattle.wire_head.specs.declared.head_reader.ReadHead.{ReadHead}
 use Rattle.wire_head.specs.Lines.{blank_len, or_later, head_len}
-use Rattle.wire_head.specs.RequestHeads.{crlf, field_line, connection_line, host_line}
+use Rattle.auth_text.specs.Text.{crlf}
+use Rattle.wire_head.specs.RequestHeads.{field_line, connection_line, host_line}
 use Rattle.wire_head.specs.ReadHeads.{is_fit, written, IsHeadOf}
 use Rattle.wire_head.specs.HeadLines.{head_read}
 use Rattle.wire_head.proofs.StatusLineLemmas.{plain, no_lf}

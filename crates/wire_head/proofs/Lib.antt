@@ -1,6 +1,7 @@
 pub mod ChunkLemmas
 pub mod ChunkPlaces
 pub mod CutLemmas
+pub mod FinalHeadLemmas
 pub mod HeadBackLemmas
 pub mod HeadLemmas
 pub mod HeadLengthLemmas

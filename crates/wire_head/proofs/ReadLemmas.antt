@@ -15,10 +15,12 @@ use Rattle.std.proofs.lemmas.Slice.Eq.{bytes_eq-Decides}
 use Rattle.spaces.specs.declared.roster.Method.{Method}
 use Rattle.spaces.specs.declared.roster.Method.TheVariants.{Get, Head}
 use Rattle.spaces.specs.declared.place.Origin.{Origin}
+use Rattle.spaces.specs.RequestTargets.{method_name, port_text}
+use Rattle.auth_text.specs.Text.{crlf}
 use Rattle.wire_head.specs.declared.head_reader.ReadHead.{ReadHead}
 use Rattle.wire_head.specs.Lines.{cut_at}
 use Rattle.wire_head.proofs.StatusLineLemmas.{cut_crlf, plain}
-use Rattle.wire_head.specs.RequestHeads.{crlf, method_name, port_suffix, field_line, connection_line, request_line, host_line}
+use Rattle.wire_head.specs.RequestHeads.{field_line, connection_line, request_line, host_line}
 use Rattle.wire_head.specs.ReadHeads.{in_line, in_target, is_fit_value, first_is, is_bracketed, has_colon, is_fit_host, is_fit, written}
 use Rattle.wire_head.specs.HeadLines.{bare, line_at, behind_name, word, method_of, target_of, port_len, has_port, host_of, port_number, port_of, with_port, origin_of, is_keep_alive, with_origin, with_server, with_proxy, from_lines, if_written, head_read}
 
@@ -63,7 +65,7 @@ abbrev pub first_text : ReadHead → List ℕ
 first_text p = method_name p.method ++ codes " " ++ p.target ++ codes " HTTP/1.1"
 
 abbrev pub host_text : ReadHead → List ℕ
-host_text p = codes "Host: " ++ p.origin.host ++ port_suffix p.origin.port
+host_text p = codes "Host: " ++ p.origin.host ++ port_text p.origin.port
 
 pub regroup : (a b c d e f : List ℕ) → a ++ b ++ c ++ d ++ e ++ f ≡ a ++ (b ++ (c ++ (d ++ (e ++ f))))
 regroup a b c d e f = simp append_assoc
@@ -90,7 +92,7 @@ digits_all : (ds : List ℕ) → AllDigits 10 ds → All (λ b. digit_value b < 
 digits_all [] all = λ i x h. absurd (omega arith)
 digits_all (d ∷ ds) all = All-cons (λ b. digit_value b < 10) d ds all.0 (digits_all ds all.1)
 
-port_plain : (port : ℕ) → port < 2 ^ 64 → Plain (port_suffix port)
+port_plain : (port : ℕ) → port < 2 ^ 64 → Plain (port_text port)
 port_plain port small = by_test (port == 80)
   where
     by_test : (x : Bool) → Plain (cond x [] (codes ":" ++ decimal port))
@@ -135,7 +137,7 @@ first_is_plain p is =
 
 pub host_is_plain : (p : ReadHead) → Fit p → Plain (host_text p)
 host_is_plain p is =
-    All-append (λ b. IsTrue (plain b)) (codes "Host: " ++ p.origin.host) (port_suffix p.origin.port)
+    All-append (λ b. IsTrue (plain b)) (codes "Host: " ++ p.origin.host) (port_text p.origin.port)
     (All-append (λ b. IsTrue (plain b)) (codes "Host: ") p.origin.host (AllPass-from_list_all plain (codes "Host: ") refl) is.host)
     (port_plain p.origin.port (omega (arith, is.port)))
 
@@ -230,7 +232,7 @@ no_port true false host c b form =
     by_test false = refl
 
 host_again : (host : List ℕ) (port : ℕ) → (not (has_colon host) || is_bracketed host) ≡ true → port < 65536
-    → With host port (host ++ port_suffix port)
+    → With host port (host ++ port_text port)
 host_again host port form small = by_test (port == 80) refl
   where
     by_test : (x : Bool) → (port == 80) ≡ x → With host port (host ++ cond x [] (codes ":" ++ decimal port))
@@ -246,9 +248,9 @@ host_again host port form small = by_test (port == 80) refl
         let numeral = decimal_is_IsNumeral port (omega (arith, small)) in
         with_digits host (decimal port) port small numeral.0.0 (digits_all (decimal port) numeral.0.1) numeral.1
 
-origin_again : (o : Origin) → With o.host o.port (o.host ++ port_suffix o.port) → origin_of (o.host ++ port_suffix o.port) ≡ Some o
+origin_again : (o : Origin) → With o.host o.port (o.host ++ port_text o.port) → origin_of (o.host ++ port_text o.port) ≡ Some o
 origin_again o with =
-    ap (λ (h : List ℕ). with_port h (port_of (o.host ++ port_suffix o.port))) with.host_is ∙ ap (with_port o.host) with.port_is
+    ap (λ (h : List ℕ). with_port h (port_of (o.host ++ port_text o.port))) with.host_is ∙ ap (with_port o.host) with.port_is
 
 -- fields
 
@@ -315,8 +317,8 @@ parts_again n p fit =
     let l0 = first ++ 13 ∷ [] in
     let l1 = host_text p ++ 13 ∷ [] in
     let ls = l0 ∷ l1 ∷ below p.proxy p.server p.keep in
-    let host = p.origin.host ++ port_suffix p.origin.port in
-    let line : host_text p ≡ codes "Host: " ++ host = append_assoc (codes "Host: ") p.origin.host (port_suffix p.origin.port) in
+    let host = p.origin.host ++ port_text p.origin.port in
+    let line : host_text p ≡ codes "Host: " ++ host = append_assoc (codes "Host: ") p.origin.host (port_text p.origin.port) in
     ap (from_lines n) (lines_again p is)
     ∙ ap (λ (l : List ℕ). proxy_on n (method_of l) (target_of l) (drop 6 (bare l1)) ls (line_at 2 ls)) (bare_again first)
     ∙ ap (λ (h : List ℕ). proxy_on n (method_of first) (target_of first) (drop 6 h) ls (line_at 2 ls)) (bare_again (host_text p) ∙ line)

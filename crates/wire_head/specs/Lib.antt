@@ -1,5 +1,6 @@
 pub mod ChunkedBodies
 pub mod Feeding
+pub mod FinalHeads
 pub mod HeaderFields
 pub mod HeadLines
 pub mod Lines

@@ -91,8 +91,28 @@ challenges h =
     if h.code == 401 then values_of (codes "WWW-Authenticate") h.fields
     else (if h.code == 407 then values_of (codes "Proxy-Authenticate") h.fields else [])
 
+abbrev pub is_challenge : ℕ → Bool
+is_challenge code = code == 401 || code == 407
+
+-- the values of a field of infos; a challenge has none
+abbrev pub infos : List ℕ → ReplyHead → List (List ℕ)
+infos name h = if is_challenge h.code then [] else values_of name h.fields
+
+abbrev pub server_info : ReplyHead → List (List ℕ)
+server_info h = infos (codes "Authentication-Info") h
+
+abbrev pub proxy_info : ReplyHead → List (List ℕ)
+proxy_info h = infos (codes "Proxy-Authentication-Info") h
+
 abbrev pub reply_of : Framing → ReplyHead → ℕ → Reply
-reply_of f h body = record { code = h.code; stays = stays f h; body = body; fields = challenges h }
+reply_of f h body = record {
+  code = h.code;
+  stays = stays f h;
+  body = body;
+  fields = challenges h;
+  server_info = server_info h;
+  proxy_info = proxy_info h;
+}
 
 -- Bodies: the final head ends at this place, and the text behind it follows.
 

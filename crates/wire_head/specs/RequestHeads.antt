@@ -1,27 +1,16 @@
 -- The head of a request (RFC 7230, sections 3 and 5.4; RFC 7235, sections 4.2 and 4.4).
-use Rattle.std.specs.Prelude.{ℕ, ◌==◌, Bool, true, false, List, [], ◌∷◌, ◌++◌, codes, decimal, Option, Some, None, if◌then◌else◌}
+use Rattle.std.specs.Prelude.{ℕ, Bool, true, false, List, [], ◌++◌, codes, Option, Some, None}
+use Rattle.auth_text.specs.Text.{crlf}
 use Rattle.spaces.specs.declared.roster.Method.{Method}
-use Rattle.spaces.specs.declared.roster.Method.TheVariants.{Get, Head}
 use Rattle.spaces.specs.declared.place.Origin.{Origin}
-
--- the end of a line
-abbrev pub crlf : List ℕ
-crlf = 13 ∷ 10 ∷ []
-
-abbrev pub method_name : Method → List ℕ
-method_name Get = codes "GET"
-method_name Head = codes "HEAD"
+use Rattle.spaces.specs.RequestTargets.{method_name, port_text}
 
 -- the method, the request target and the version
 abbrev pub request_line : Method → List ℕ → List ℕ
 request_line method target = method_name method ++ codes " " ++ target ++ codes " HTTP/1.1" ++ crlf
 
--- `:` and the port, where it isn't 80
-abbrev pub port_suffix : ℕ → List ℕ
-port_suffix port = if port == 80 then [] else codes ":" ++ decimal port
-
 abbrev pub host_line : Origin → List ℕ
-host_line origin = codes "Host: " ++ origin.host ++ port_suffix origin.port ++ crlf
+host_line origin = codes "Host: " ++ origin.host ++ port_text origin.port ++ crlf
 
 -- a field, where there is a value
 abbrev pub field_line : List ℕ → Option (List ℕ) → List ℕ

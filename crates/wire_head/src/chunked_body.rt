@@ -9,7 +9,8 @@ ghost use Rattle.wire_head.specs.Lines as lines;
 ghost use Rattle.wire_head.specs.ChunkedBodies as spec;
 ghost use Rattle.wire_head.specs.Within.{IsFrontWithin, IsChunkWithin, IsBodyWithin, IsFewIfWhole};
 
-use crate::lines::{Front, blank_len, front_of, head_len, line_end, rest_of};
+use crate::lines::{Front, blank_len, head_len, lf_at, line_end};
+use auth_text::{front_of, rest_of};
 
 /// The chunk at the front of a text.
 #[derive(Clone, Copy, Debug, PartialEq, Eq)]
@@ -33,13 +34,6 @@ pub(crate) enum ChunkedBody {
     Wrong(usize),
     /// It hasn't ended yet.
     Part,
-}
-
-fn lf_at(text: &[u8]) -> Option<usize>
-    ensures value { result ≡ position_from (λ c. c == 10) 0 text.now }
-    ensures within { IfSome result (λ at. at < length text.now) }
-{
-    text.iter().position(|b| *b == b'\n')
 }
 
 /// The bytes up to and with the first LF.

@@ -1,5 +1,5 @@
 //! What a reply's head says of what follows it: how the body ends, whether the connection stays open
-//! (RFC 7230, sections 3.3.3 and 6.3), and the challenges.
+//! (RFC 7230, sections 3.3.3 and 6.3), and the challenges or the infos (RFC 7615).
 
 ghost use Rattle.std.specs.Prelude.{◌≡◌, ◌+◌, ◌<◌, ◌≤◌, length, ◌==◌, IfOk, codes, false};
 ghost use Rattle.std.specs.List.{prefix_len, list_all, list_any};
@@ -10,10 +10,9 @@ ghost use Rattle.wire_head.specs.Replies as spec;
 
 use crate::chunked_body::digit_of;
 use crate::header_fields::{is_same_name, values_of};
-use crate::lines::rest_of;
-use crate::reply::{Fields, Reply};
+use crate::reply::{Fields, Reply, is_challenge};
 use crate::response_head::ReplyHead;
-use auth_text::{Bytes, NoMemory};
+use auth_text::{Bytes, NoMemory, are_digits, rest_of};
 use field_lists::elements;
 use spaces::Method;
 use std::alloc::Global;
@@ -51,12 +50,6 @@ fn zeros(digits: &[u8]) -> usize
     ensures within { result ≤ length digits.now }
 {
     digits.iter().take_while(|d| **d == b'0').count()
-}
-
-fn are_digits(bytes: &[u8]) -> bool
-    ensures { result ≡ list_all is_ascii_digit bytes.now }
-{
-    bytes.iter().all(|b| b.is_ascii_digit())
 }
 
 fn is_number_as(e: &[u8], f: &[u8]) -> bool
@@ -182,6 +175,16 @@ fn challenges(alloc: Global, head: &ReplyHead) -> Result<Fields, NoMemory>
     }
 }
 
+/// The values of a field of infos; a challenge has none.
+fn infos(alloc: Global, name: &[u8], head: &ReplyHead) -> Result<Fields, NoMemory>
+    ensures { IfOk result (λ them. them ≡ spec.infos name.now head.now) }
+{
+    if is_challenge(head.code) {
+        return Ok(Fields::new(alloc));
+    }
+    values_of(alloc, name, head.fields.as_slice())
+}
+
 pub(crate) fn reply_of(
     alloc: Global,
     framing: Framing,
@@ -192,10 +195,14 @@ pub(crate) fn reply_of(
 {
     let stays = stays(alloc, framing, head)?;
     let fields = challenges(alloc, head)?;
+    let server_info = infos(alloc, b"Authentication-Info", head)?;
+    let proxy_info = infos(alloc, b"Proxy-Authentication-Info", head)?;
     Ok(Reply {
         code: head.code,
         stays,
         body,
         fields,
+        server_info,
+        proxy_info,
     })
 }

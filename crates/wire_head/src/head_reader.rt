@@ -9,9 +9,9 @@ ghost use Rattle.wire_head.specs.HeadLines as spec;
 ghost use Rattle.wire_head.specs.ReadHeads as fit;
 
 use crate::chunked_body::digit_of;
-use crate::lines::{front_of, head_len};
+use crate::lines::{head_len, lf_at};
 use crate::request_head::{HeadParts, write_head};
-use auth_text::{Bytes, Items, NoMemory};
+use auth_text::{Bytes, Items, NoMemory, front_of};
 use spaces::{Method, Origin};
 use std::alloc::Global;
 use thiserror::Error;
@@ -189,13 +189,6 @@ fn is_fit(head: &ReadHead) -> bool
         && is_fit_value(&head.server)
         && is_fit_host(head.origin.host.as_slice())
         && (head.origin.port as u32) < 65536
-}
-
-fn lf_at(text: &[u8]) -> Option<usize>
-    ensures value { result ≡ position_from (λ c. c == 10) 0 text.now }
-    ensures within { IfSome result (λ at. at < length text.now) }
-{
-    text.iter().position(|b| *b == b'\n')
 }
 
 /// The lines of a text.
@@ -394,63 +387,5 @@ pub fn read_head(alloc: Global, bytes: &[u8]) -> Result<ReadHead, HeadFault>
         Ok(Some(head)) => Ok(head),
         Ok(None) => Err(HeadFault::NotOurs),
         Err(NoMemory) => Err(HeadFault::NoMemory),
-    }
-}
-
-#[cfg(test)]
-mod tests {
-    use super::*;
-    use std::test::Fail;
-
-    #[test]
-    fn heads_are_read(rt: HostRuntime) -> Result<(), Fail> {
-        let text =
-            b"HEAD http://[::1]:8080/x HTTP/1.1\r\nHost: [::1]:8080\r\nProxy-Authorization: Basic cHU6cHA=\r\nConnection: keep-alive\r\n\r\nGET";
-        let head = read_head(rt.alloc(), text)?;
-        assert!(rt; head.method == Method::Head && head.keep && head.length == 116);
-        assert_eq!(rt; head.target.as_slice(), b"http://[::1]:8080/x".as_slice());
-        assert_eq!(rt; head.origin.host.as_slice(), b"[::1]".as_slice());
-        assert_eq!(rt; head.origin.port, 8080);
-        let Some(proxy) = &head.proxy else {
-            assert!(rt; false);
-            return Ok(());
-        };
-        assert_eq!(rt; proxy.as_slice(), b"Basic cHU6cHA=".as_slice());
-        assert!(rt; head.server.is_none());
-        Ok(())
-    }
-
-    #[test]
-    fn other_heads_are_refused(rt: HostRuntime) -> Result<(), Fail> {
-        let table: [(&[u8], HeadFault); 8] = [
-            (b"", HeadFault::Unfinished),
-            (b"\r\n", HeadFault::Unfinished),
-            (b"\r\nGET", HeadFault::Unfinished),
-            (b"\r\n\r\n", HeadFault::NotOurs),
-            (
-                b"GET / HTTP/1.1\r\nHost: h\r\nConnection: close\r\n",
-                HeadFault::Unfinished,
-            ),
-            (
-                b"GET / HTTP/1.1\r\nHost: h:80\r\nConnection: close\r\n\r\n",
-                HeadFault::NotOurs,
-            ),
-            (
-                b"GET / HTTP/1.1\r\nHost: h:65536\r\nConnection: close\r\n\r\n",
-                HeadFault::NotOurs,
-            ),
-            (
-                b"GET / HTTP/1.0\r\nHost: h\r\nConnection: close\r\n\r\n",
-                HeadFault::NotOurs,
-            ),
-        ];
-        for (text, want) in table.iter() {
-            let Err(fault) = read_head(rt.alloc(), *text) else {
-                assert!(rt; false, "{}", text.escape_ascii());
-                return Ok(());
-            };
-            assert_eq!(rt; fault, *want);
-        }
-        Ok(())
     }
 }

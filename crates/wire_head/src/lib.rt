@@ -13,11 +13,9 @@ mod reader;
 mod reply;
 mod request_head;
 mod response_head;
-#[cfg(test)]
-mod tests;
 
 pub use head_reader::{HeadFault, ReadHead, read_head};
-pub use laws::{heads_read_back, limits, outcomes, worked};
+pub use laws::{carried, heads_read_back, limits, outcomes, worked};
 pub use reader::{At, Fed, ReplyReader};
-pub use reply::{Fields, Reply, WireFault};
+pub use reply::{Fields, Reply, WireFault, is_challenge};
 pub use request_head::{HeadParts, write_head};

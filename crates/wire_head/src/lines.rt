@@ -1,9 +1,12 @@
 //! Lines of HTTP: where one ends, and where a head ends, which is its first blank line
 //! (RFC 7230, section 3.5, lets LF alone end a line).
 
-ghost use Rattle.std.specs.Prelude.{◌≡◌, ◌<◌, ◌≤◌, length, drop, take, IfSome};
+ghost use Rattle.std.specs.Prelude.{◌≡◌, ◌==◌, ◌<◌, ◌≤◌, length, IfSome};
+ghost use Rattle.std.specs.List.{position_from};
 ghost use Rattle.wire_head.specs.Lines as spec;
 ghost use Rattle.wire_head.specs.Within.{IsFrontWithin};
+
+use auth_text::rest_of;
 
 /// How a text begins, where a line or the end of one is wanted.
 #[derive(Clone, Copy, Debug, PartialEq, Eq)]
@@ -16,20 +19,12 @@ pub(crate) enum Front {
     Part,
 }
 
-/// What is left behind n bytes.
-pub(crate) fn rest_of(text: &[u8], n: usize) -> &[u8]
-    requires { n ≤ length text.now }
-    ensures { result.now ≡ drop n text.now }
+/// The place of the first LF.
+pub(crate) fn lf_at(text: &[u8]) -> Option<usize>
+    ensures value { result ≡ position_from (λ c. c == 10) 0 text.now }
+    ensures within { IfSome result (λ at. at < length text.now) }
 {
-    &text[n..]
-}
-
-/// The first n bytes.
-pub(crate) fn front_of(text: &[u8], n: usize) -> &[u8]
-    requires { n ≤ length text.now }
-    ensures { result.now ≡ take n text.now }
-{
-    &text[..n]
+    text.iter().position(|b| *b == b'\n')
 }
 
 /// The length of the blank line at the front, where there is one.

@@ -7,10 +7,10 @@ ghost use Rattle.wire_head.specs.Within.{IsBodyWithin};
 
 use crate::chunked_body::{ChunkedBody, chunks};
 use crate::framing::{Framing, framing_of, reply_of};
-use crate::lines::{front_of, head_len, rest_of};
+use crate::lines::head_len;
 use crate::reply::{Reply, WireFault};
 use crate::response_head::{ReplyHead, head_of};
-use auth_text::NoMemory;
+use auth_text::{NoMemory, front_of, rest_of};
 use spaces::Method;
 use std::alloc::Global;
 

@@ -1,6 +1,9 @@
 //! Replies as the rest of the program sees them: what of a reply matters to authentication, and the
 //! faults that stand in place of one.
 
+ghost use Rattle.std.specs.Prelude.{◌≡◌};
+ghost use Rattle.wire_head.specs.Replies.{is_challenge};
+
 use auth_text::{Bytes, Items};
 use thiserror::Error;
 
@@ -27,6 +30,14 @@ pub enum WireFault {
     Cut,
 }
 
+/// Whether a reply of that code is a challenge, of a server (401) or of a proxy (407). A challenge
+/// carries fields and no infos, another reply infos and no fields.
+pub fn is_challenge(code: u16) -> bool
+    ensures { result ≡ is_challenge code }
+{
+    code == 401 || code == 407
+}
+
 /// A whole reply.
 #[derive(Clone, Debug, Drop, PartialEq, Eq)]
 pub struct Reply {
@@ -38,4 +49,8 @@ pub struct Reply {
     pub body: u32,
     /// The values of `WWW-Authenticate` of a 401, of `Proxy-Authenticate` of a 407, else none.
     pub fields: Fields,
+    /// The values of `Authentication-Info` (RFC 7615, section 3); none of a 401 or a 407.
+    pub server_info: Fields,
+    /// The values of `Proxy-Authentication-Info` (RFC 7615, section 4); none of a 401 or a 407.
+    pub proxy_info: Fields,
 }

@@ -6,8 +6,7 @@ ghost use Rattle.std.specs.Option.{option_map};
 ghost use Rattle.wire_head.specs.RequestHeads as spec;
 
 use auth_text::{Bytes, NoMemory};
-use itoa::Buffer;
-use spaces::{Method, Origin};
+use spaces::{Method, Origin, push_port};
 use std::alloc::Global;
 
 /// The parts of a request's head. They are fit to be written where the target has no space, CR or
@@ -28,33 +27,13 @@ pub struct HeadParts<'a> {
     pub keep: bool,
 }
 
-fn push_method(out: &mut Bytes, method: Method) -> Result<(), NoMemory>
-    ensures { OnOk result (out.new ≡ out.old ++ spec.method_name method) }
-{
-    match method {
-        Method::Get => out.extend_from_slice(b"GET"),
-        Method::Head => out.extend_from_slice(b"HEAD"),
-    }
-}
-
 fn push_request_line(out: &mut Bytes, method: Method, target: &[u8]) -> Result<(), NoMemory>
     ensures { OnOk result (out.new ≡ out.old ++ spec.request_line method target.now) }
 {
-    push_method(out, method)?;
+    out.extend_from_slice(method.name())?;
     out.extend_from_slice(b" ")?;
     out.extend_from_slice(target)?;
     out.extend_from_slice(b" HTTP/1.1\r\n")
-}
-
-fn push_port(out: &mut Bytes, port: u16) -> Result<(), NoMemory>
-    ensures { OnOk result (out.new ≡ out.old ++ spec.port_suffix port) }
-{
-    if port == 80 {
-        return Ok(());
-    }
-    out.extend_from_slice(b":")?;
-    let mut digits = Buffer::new();
-    out.extend_from_slice(digits.format(port).as_bytes())
 }
 
 fn push_host(out: &mut Bytes, origin: &Origin) -> Result<(), NoMemory>
@@ -90,7 +69,8 @@ fn push_connection(out: &mut Bytes, keep: bool) -> Result<(), NoMemory>
 
 /// The head of a request of these parts, up to and with its empty line.
 pub fn write_head(alloc: Global, parts: &HeadParts) -> Result<Bytes, NoMemory>
-    ensures { IfOk result (λ text. text ≡ spec.head parts.now.method parts.now.target.now parts.now.origin.now (option_map (λ v. v.now) parts.now.proxy) (option_map (λ v. v.now) parts.now.server) parts.now.keep) }
+    ensures { IfOk result (λ text. text ≡ spec.head parts.now.method parts.now.target.now parts.now.origin.now
+        (option_map (λ v. v.now) parts.now.proxy) (option_map (λ v. v.now) parts.now.server) parts.now.keep) }
 {
     let mut out = Bytes::new(alloc);
     push_request_line(&mut out, parts.method, parts.target)?;
@@ -100,50 +80,4 @@ pub fn write_head(alloc: Global, parts: &HeadParts) -> Result<Bytes, NoMemory>
     push_connection(&mut out, parts.keep)?;
     out.extend_from_slice(b"\r\n")?;
     Ok(out)
-}
-
-#[cfg(test)]
-mod tests {
-    use super::*;
-    use std::test::Fail;
-
-    #[test]
-    fn heads_are_written(rt: HostRuntime) -> Result<(), Fail> {
-        let alloc = rt.alloc();
-        let origin = Origin {
-            host: Bytes::from_slice(alloc, b"a.example").map_err(|_| "memory")?,
-            port: 80,
-        };
-        let parts = HeadParts {
-            method: Method::Get,
-            target: b"http://a.example/x",
-            origin: &origin,
-            proxy: Some(b"Basic cHU6cHA="),
-            server: Some(b"Basic c3U6c3A="),
-            keep: false,
-        };
-        let head = write_head(alloc, &parts).map_err(|_| "memory")?;
-        assert_eq!(rt;
-            head.as_slice(),
-            b"GET http://a.example/x HTTP/1.1\r\nHost: a.example\r\nProxy-Authorization: Basic cHU6cHA=\r\nAuthorization: Basic c3U6c3A=\r\nConnection: close\r\n\r\n".as_slice()
-        );
-        let local = Origin {
-            host: Bytes::from_slice(alloc, b"[::1]").map_err(|_| "memory")?,
-            port: 8080,
-        };
-        let parts = HeadParts {
-            method: Method::Head,
-            target: b"/",
-            origin: &local,
-            proxy: None,
-            server: None,
-            keep: true,
-        };
-        let head = write_head(alloc, &parts).map_err(|_| "memory")?;
-        assert_eq!(rt;
-            head.as_slice(),
-            b"HEAD / HTTP/1.1\r\nHost: [::1]:8080\r\nConnection: keep-alive\r\n\r\n".as_slice()
-        );
-        Ok(())
-    }
 }

@@ -2,13 +2,15 @@
 
 mod book;
 mod draws;
+mod rivals;
 mod rows;
+mod sources;
 
 use crate::tests::book::{opened, played, played_on, roster_of, roster_of_hosts, space_of_ask};
 use crate::tests::draws::counts_go_on;
-use crate::tests::rows::{
-    CANCELLED, DIRECTORIES, LATE_REJECTION, LOST, PARTITIONS, Row, SHARED, full_cache,
-};
+use crate::tests::rivals::{full_cache, full_cache_beside, two_sides};
+use crate::tests::rows::{CANCELLED, DIRECTORIES, LATE_REJECTION, LOST, PARTITIONS, Row, SHARED};
+use crate::tests::sources::{all_sources, is_space};
 use auth_events::Controller;
 use auth_text::NoMemory;
 use std::alloc::Global;
@@ -46,11 +48,7 @@ fn followers_take_the_one_end(rt: HostRuntime) -> Result<(), Fail> {
 /// The number of the space stands for it afterwards too.
 fn old_gift(rt: &impl Abort, alloc: Global) -> Result<(), NoMemory> {
     let book = played(rt, alloc, &[HOME, HOME], &[LATE_REJECTION])?;
-    let wanted = space_of_ask(alloc, HOME)?;
-    assert!(rt; book.names().space(1).is_some());
-    let space = book.space_of(1)?;
-    assert!(rt; space == wanted);
-    Ok(())
+    is_space(rt, &book, 1, &space_of_ask(alloc, HOME)?)
 }
 
 #[test]
@@ -80,19 +78,57 @@ fn counts_of_a_nonce_go_on(rt: HostRuntime) -> Result<(), Fail> {
     Ok(())
 }
 
+#[test]
+fn gifts_stand_for_their_identities(rt: HostRuntime) -> Result<(), Fail> {
+    all_sources(&rt, rt.alloc())?;
+    Ok(())
+}
+
 /// The hosts of the 32 spaces that are given, then of the spaces 1, 33 and 2, and then of each space
 /// but the second.
 const HOSTS: &[u8] = b"abcdefghijklmnopqrstuvwxyz012345a6bacdefghijklmnopqrstuvwxyz0123456";
 
-fn next_space(rt: &impl Abort, alloc: Global) -> Result<(), NoMemory> {
-    let roster = roster_of_hosts(alloc, HOSTS)?;
-    let rows = full_cache(alloc)?;
-    played_on(rt, alloc, &roster, &[rows.as_slice()])?;
+/// The same behind a space of another partition, on the first host too.
+const HOSTS_BESIDE: &[u8] =
+    b"aabcdefghijklmnopqrstuvwxyz012345a6baacdefghijklmnopqrstuvwxyz0123456";
+
+/// The hosts of the 32 spaces that are given, then of the spaces 1 and 33, and then of each space.
+const HOSTS_OF_TWO: &[u8] = b"abcdefghijklmnopqrstuvwxyz012345a6abcdefghijklmnopqrstuvwxyz0123456";
+
+/// The partitions of these requests.
+const ONE_SIDE: &[u8] = &[b'1'; 67];
+
+const SIDES_BESIDE: &[u8] =
+    b"211111111111111111111111111111111111211111111111111111111111111111111";
+
+const TWO_SIDES: &[u8] = b"1212121212121212121212121212121211121212121212121212121212121212121";
+
+/// The book of these requests replies as the rows say.
+fn plays(
+    rt: &impl Abort,
+    alloc: Global,
+    hosts: &[u8],
+    sides: &[u8],
+    rows: &[Row],
+) -> Result<(), NoMemory> {
+    assert!(rt; hosts.len() == sides.len());
+    let roster = roster_of_hosts(alloc, hosts, sides)?;
+    played_on(rt, alloc, &roster, &[rows])?;
     Ok(())
 }
 
 #[test]
 fn the_space_goes_that_was_not_touched_for_longest(rt: HostRuntime) -> Result<(), Fail> {
-    next_space(&rt, rt.alloc())?;
+    let rows = full_cache(rt.alloc())?;
+    plays(&rt, rt.alloc(), HOSTS, ONE_SIDE, rows.as_slice())?;
+    Ok(())
+}
+
+#[test]
+fn nobody_is_evicted_for_another_partition(rt: HostRuntime) -> Result<(), Fail> {
+    let rows = full_cache_beside(rt.alloc())?;
+    plays(&rt, rt.alloc(), HOSTS_BESIDE, SIDES_BESIDE, rows.as_slice())?;
+    let rows = two_sides(rt.alloc())?;
+    plays(&rt, rt.alloc(), HOSTS_OF_TWO, TWO_SIDES, rows.as_slice())?;
     Ok(())
 }

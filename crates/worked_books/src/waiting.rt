@@ -6,7 +6,7 @@ ghost use Rattle.auth_events.specs.declared.journal.BookReply.TheVariants.{Cance
 ghost use Rattle.auth_events.specs.declared.told.Told.{Told};
 ghost use Rattle.auth_events.specs.Book.{allowed, answer};
 ghost use Rattle.auth_events.specs.Told.{told_after};
-ghost use Rattle.auth_events.specs.Worked as worked;
+ghost use Rattle.history_laws.specs.Worked as worked;
 
 /// One leads a prompt, and two follow it. Before it is answered, a follower may take its end: the reply
 /// is that it waits, and the history stays as it was.

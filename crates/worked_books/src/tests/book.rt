@@ -21,7 +21,7 @@ fn partition(alloc: Global, name: &[u8]) -> Result<Partition, NoMemory> {
     }
 }
 
-fn place(alloc: Global, url: &[u8]) -> Result<Place, NoMemory> {
+pub(crate) fn place(alloc: Global, url: &[u8]) -> Result<Place, NoMemory> {
     match place_of(alloc, url) {
         Ok(place) => Ok(place),
         Err(_) => Err(NoMemory),
@@ -40,6 +40,19 @@ pub(crate) fn request(alloc: Global, name: &[u8], url: &[u8]) -> Result<Request,
     })
 }
 
+/// A GET of the URL in the partition, over the proxy.
+pub(crate) fn request_over(
+    alloc: Global,
+    name: &[u8],
+    url: &[u8],
+    proxy: &[u8],
+) -> Result<Request, NoMemory> {
+    let mut request = request(alloc, name, url)?;
+    let proxy = place(alloc, proxy)?;
+    request.proxy = Some(proxy.origin);
+    Ok(request)
+}
+
 /// The site of the request's server.
 pub(crate) fn server(request: &Request) -> Result<Site, NoMemory> {
     let partition = request.partition.clone()?;
@@ -47,6 +60,17 @@ pub(crate) fn server(request: &Request) -> Result<Site, NoMemory> {
     Ok(Site {
         partition,
         target: Target::Server,
+        origin,
+    })
+}
+
+/// The site of the URL's host in the partition `main`.
+pub(crate) fn site_of(alloc: Global, target: Target, url: &[u8]) -> Result<Site, NoMemory> {
+    let partition = partition(alloc, b"main")?;
+    let origin = place(alloc, url)?.origin;
+    Ok(Site {
+        partition,
+        target,
         origin,
     })
 }
@@ -70,13 +94,22 @@ pub(crate) fn roster_of(alloc: Global, asks: &[(&[u8], &[u8])]) -> Result<Roster
     })
 }
 
-/// A request for each host, whose name is an `h` and that letter.
-pub(crate) fn roster_of_hosts(alloc: Global, hosts: &[u8]) -> Result<Roster, NoMemory> {
+/// A request of the host whose name is an `h` and that letter, in the partition of a `p` and that digit.
+fn request_of_host(alloc: Global, host: u8, side: u8) -> Result<Request, NoMemory> {
+    let mut url = Bytes::from_slice(alloc, b"http://h")?;
+    url.push(host)?;
+    request(alloc, &[b'p', side], url.as_slice())
+}
+
+/// A request for each host, and for each its partition.
+pub(crate) fn roster_of_hosts(
+    alloc: Global,
+    hosts: &[u8],
+    sides: &[u8],
+) -> Result<Roster, NoMemory> {
     let mut requests = Requests::new(alloc);
-    for host in hosts {
-        let mut url = Bytes::from_slice(alloc, b"http://h")?;
-        url.push(*host)?;
-        requests.push(request(alloc, b"main", url.as_slice())?)?;
+    for (host, side) in hosts.iter().zip(sides) {
+        requests.push(request_of_host(alloc, *host, *side)?)?;
     }
     Ok(Roster {
         requests,
@@ -84,8 +117,8 @@ pub(crate) fn roster_of_hosts(alloc: Global, hosts: &[u8]) -> Result<Roster, NoM
     })
 }
 
-fn identity(alloc: Global) -> Result<Identity, NoMemory> {
-    match Identity::new(alloc, b"u", b"p") {
+fn identity(alloc: Global, user: &[u8]) -> Result<Identity, NoMemory> {
+    match Identity::new(alloc, user, b"p") {
         Ok(identity) => Ok(identity),
         Err(_) => Err(NoMemory),
     }
@@ -125,11 +158,12 @@ pub(crate) fn name_text<B: Controller>(
     alloc: Global,
     book: &mut B,
     roster: &Roster,
+    user: &[u8],
 ) -> Result<(), NoMemory>
     requires { B.roster book.old ≡ roster.now }
     ensures { B.roster book.new ≡ roster.now }
 {
-    let text = identity(alloc)?;
+    let text = identity(alloc, user)?;
     assert!(rt; has_room(book, roster));
     book.text_no(1, &text)?;
     Ok(())
@@ -148,7 +182,7 @@ fn name_one<B: Controller>(
 {
     let space = basic(alloc, request)?;
     name_space(rt, book, roster, &space)?;
-    name_text(rt, alloc, book, roster)?;
+    name_text(rt, alloc, book, roster, b"u")?;
     Ok(())
 }
 

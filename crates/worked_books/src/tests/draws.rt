@@ -22,10 +22,10 @@ fn digest(alloc: Global, realm: &[u8]) -> Result<Space, NoMemory> {
     Ok(Space::new(site, Scheme::Digest, realm))
 }
 
-/// Terms of that realm, with the nonce that the server always sends.
-fn terms(alloc: Global, realm: &[u8]) -> Result<Terms, NoMemory> {
+/// Terms of that realm and nonce.
+fn terms(alloc: Global, realm: &[u8], nonce: &[u8]) -> Result<Terms, NoMemory> {
     let realm = Bytes::from_slice(alloc, realm)?;
-    let nonce = Bytes::from_slice(alloc, b"n")?;
+    let nonce = Bytes::from_slice(alloc, nonce)?;
     Ok(Terms {
         algorithm: Algorithm::Md5,
         said: false,
@@ -33,6 +33,7 @@ fn terms(alloc: Global, realm: &[u8]) -> Result<Terms, NoMemory> {
         nonce,
         opaque: None,
         qop: Qop::Auth,
+        userhash: false,
     })
 }
 
@@ -58,20 +59,21 @@ fn has_room_for_terms<B: Controller>(book: &B, roster: &Roster) -> bool
     requests <= 2048 && terms < 64 * requests && nonces < 16 * requests
 }
 
-/// The numbers of the terms of that realm.
-fn name_realm<B: Controller>(
+/// The numbers of the terms of that realm and nonce.
+pub(crate) fn name_realm<B: Controller>(
     rt: &impl Abort,
     alloc: Global,
     book: &mut B,
     roster: &Roster,
     realm: &[u8],
+    nonce: &[u8],
 ) -> Result<TermsRef, NoMemory>
     requires { B.roster book.old ≡ roster.now }
     ensures { B.roster book.new ≡ roster.now }
 {
     let space = digest(alloc, realm)?;
     let number = name_space(rt, book, roster, &space)?;
-    let terms = terms(alloc, realm)?;
+    let terms = terms(alloc, realm, nonce)?;
     assert!(rt; is_home(book.names(), number, &terms));
     assert!(rt; has_room_for_terms(book, roster));
     let numbers = book.terms_no(1, number, &terms)?;
@@ -95,7 +97,7 @@ fn is_refused<B: Controller>(
     ensures words { OnOk result (words.new ≡ record { count = wanted.epoch + 1; epoch = wanted.epoch + 1 } ∷ []) }
 {
     let [select, answer, reject] = *rows;
-    name_text(rt, alloc, book, roster)?;
+    name_text(rt, alloc, book, roster, b"u")?;
     play_one(rt, book, roster, select);
     play_one(rt, book, roster, answer);
     assert!(rt; words.draw(1) == wanted);
@@ -138,7 +140,7 @@ fn first_realm<B: Controller>(
     ensures words { IfOk result (λ words. words ≡ record { count = 3; epoch = 3 } ∷ []) }
 {
     let mut words = PlainWords::new(alloc, 1)?;
-    let numbers = name_realm(rt, alloc, book, roster, b"d")?;
+    let numbers = name_realm(rt, alloc, book, roster, b"d", b"n")?;
     assert!(rt; numbers == TermsRef { terms: 1, nonce: 1 });
     play(rt, book, roster, AFTER_BEGIN);
     refused_thrice(rt, alloc, book, roster, &mut words)?;
@@ -156,9 +158,9 @@ fn other_realm<B: Controller>(
     requires roster { B.roster book.old ≡ roster.now }
     requires words { words.old ≡ record { count = 3; epoch = 3 } ∷ [] }
 {
-    let numbers = name_realm(rt, alloc, book, roster, b"e")?;
+    let numbers = name_realm(rt, alloc, book, roster, b"e", b"n")?;
     assert!(rt; numbers == TermsRef { terms: 2, nonce: 1 });
-    name_text(rt, alloc, book, roster)?;
+    name_text(rt, alloc, book, roster, b"u")?;
     play(rt, book, roster, OTHER_REALM);
     assert!(rt; words.draw(1) == Drawn { count: 4, epoch: 3 });
     Ok(())

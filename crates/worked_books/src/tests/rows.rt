@@ -1,18 +1,16 @@
 //! Rows of calls and replies, in the words of a report's entries.
 
 use auth_events::{BookReply, Call, Gift, Loss};
-use auth_text::NoMemory;
 use spaces::Target;
-use std::alloc::Global;
 
 /// A request, the word and the numbers of its call, and those of the reply.
 #[derive(Clone, Copy)]
 pub(crate) struct Row(
     pub(crate) u32,
     pub(crate) &'static str,
-    [u32; 3],
-    &'static str,
-    [u32; 3],
+    pub(crate) [u32; 3],
+    pub(crate) &'static str,
+    pub(crate) [u32; 3],
 );
 
 /// The call of the word with the numbers.
@@ -25,7 +23,11 @@ fn call(word: &str, numbers: [u32; 3]) -> Call {
     match word {
         "begin" => Call::Begin,
         "preempt" => Call::Preempt {
-            target: Target::Server,
+            target: if first == 0 {
+                Target::Server
+            } else {
+                Target::Proxy
+            },
         },
         "select" => Call::Select {
             space: first,
@@ -35,6 +37,7 @@ fn call(word: &str, numbers: [u32; 3]) -> Call {
             space: first,
             ordinal: second,
         },
+        "renew" => Call::Renew { gift, terms: third },
         "answer" => Call::Answer {
             prompt: first,
             text: second,
@@ -66,6 +69,12 @@ fn reply(word: &str, numbers: [u32; 3]) -> BookReply {
             epoch: 0,
         },
         "nothing" => BookReply::Nothing,
+        "url" => BookReply::Url {
+            gift,
+            evicted: third,
+        },
+        "default" => BookReply::Default,
+        "renewed" => BookReply::Renewed,
         "cached" => BookReply::Cached { gift },
         "follow" => BookReply::Follow { prompt: first },
         "lead" => BookReply::Lead {
@@ -99,7 +108,7 @@ impl Row {
     }
 }
 
-const NO: [u32; 3] = [0, 0, 0];
+pub(crate) const NO: [u32; 3] = [0, 0, 0];
 
 /// Two follow the prompt of the first, and one asks for its end too soon.
 pub(crate) const SHARED: &[Row] = &[
@@ -210,50 +219,35 @@ pub(crate) const OTHER_REALM: &[Row] = &[
     Row(1, "answer", [4, 4, 2], "given", [2, 1, 0]),
 ];
 
-/// With 32 live spaces the first is touched again, and the next giving evicts the second.
-const NEXT_SPACE: &[Row] = &[
-    Row(33, "begin", NO, "begun", NO),
-    Row(33, "preempt", NO, "nothing", NO),
-    Row(33, "select", [1, 0, 0], "cached", [1, 1, 0]),
-    Row(34, "begin", NO, "begun", NO),
-    Row(34, "preempt", NO, "nothing", NO),
-    Row(34, "select", [33, 0, 0], "lead", [33, 1, 0]),
-    Row(34, "answer", [33, 33, 0], "given", [33, 1, 2]),
-    Row(35, "begin", NO, "begun", NO),
-    Row(35, "preempt", NO, "nothing", NO),
-    Row(35, "select", [2, 0, 0], "lead", [34, 2, 0]),
+/// A proxy's gift comes by an answer and the server's from the URL, whose terms are renewed and are
+/// then ready for another request. That one has them removed and is given others, which a third one
+/// shares. The default identity is told once.
+pub(crate) const ALL_SOURCES: &[Row] = &[
+    Row(1, "begin", NO, "begun", NO),
+    Row(1, "preempt", [1, 0, 0], "nothing", NO),
+    Row(1, "preempt", NO, "nothing", NO),
+    Row(1, "select", [1, 0, 0], "lead", [1, 1, 0]),
+    Row(1, "answer", [1, 1, 0], "given", [1, 1, 0]),
+    Row(1, "select", [2, 1, 0], "url", [2, 1, 0]),
+    Row(1, "renew", [2, 1, 2], "renewed", NO),
+    Row(1, "note", [1, 1, 0], "noted", NO),
+    Row(1, "note", [2, 1, 0], "noted", NO),
+    Row(1, "end", NO, "ended", NO),
+    Row(2, "begin", NO, "begun", NO),
+    Row(2, "preempt", NO, "ready", [2, 1, 2]),
+    Row(2, "reject", [2, 1, 0], "removed", NO),
+    Row(2, "select", [2, 1, 0], "lead", [2, 1, 0]),
+    Row(2, "answer", [2, 2, 1], "given", [2, 2, 0]),
+    Row(2, "end", NO, "ended", NO),
+    Row(3, "begin", NO, "begun", NO),
+    Row(3, "preempt", NO, "nothing", NO),
+    Row(3, "select", [2, 1, 0], "cached", [2, 2, 0]),
+    Row(3, "end", NO, "ended", NO),
+    Row(4, "begin", NO, "begun", NO),
+    Row(4, "preempt", NO, "nothing", NO),
+    Row(4, "select", [3, 0, 0], "default", NO),
+    Row(4, "reject", [3, 0, 0], "kept", NO),
+    Row(4, "select", [3, 0, 0], "lead", [3, 1, 0]),
+    Row(4, "answer", [3, 3, 0], "given", [3, 1, 0]),
+    Row(4, "end", NO, "ended", NO),
 ];
-
-/// Requests 1 to 32 are each given credentials in the space of their number.
-fn push_given(rows: &mut Vec<Row>) -> Result<(), NoMemory> {
-    for number in 1..33 {
-        let gift = [number, 1, 0];
-        rows.push(Row(number, "begin", NO, "begun", NO))?;
-        rows.push(Row(number, "preempt", NO, "nothing", NO))?;
-        rows.push(Row(number, "select", [number, 0, 0], "lead", gift))?;
-        rows.push(Row(number, "answer", [number, number, 0], "given", gift))?;
-    }
-    Ok(())
-}
-
-/// The requests from 36 on find every space but the second live, in order of the spaces.
-fn push_live(rows: &mut Vec<Row>) -> Result<(), NoMemory> {
-    for number in 36..68 {
-        let space = if number == 36 { 1 } else { number - 34 };
-        rows.push(Row(number, "begin", NO, "begun", NO))?;
-        rows.push(Row(number, "preempt", NO, "nothing", NO))?;
-        rows.push(Row(number, "select", [space, 0, 0], "cached", [space, 1, 0]))?;
-    }
-    Ok(())
-}
-
-/// A full cache, one giving more, and what is live then.
-pub(crate) fn full_cache(alloc: Global) -> Result<Vec<Row>, NoMemory> {
-    let mut rows = Vec::new(alloc);
-    push_given(&mut rows)?;
-    for row in NEXT_SPACE {
-        rows.push(*row)?;
-    }
-    push_live(&mut rows)?;
-    Ok(rows)
-}

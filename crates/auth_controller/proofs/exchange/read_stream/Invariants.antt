@@ -1,6 +1,6 @@
-use Rattle.std.proofs.Common.{◌≡◌, ◌-◌, ◌+◌, IsTrue, is_some, true, false, if◌then◌else◌, length, vec_len}
+use Rattle.std.proofs.Common.{◌≡◌, ◌-◌, ◌+◌, IsTrue, is_some, true, false, if◌then◌else◌, [], length, vec_len}
 use Rattle.link_trait.specs.Links.{has_link}
-use Rattle.auth_controller.specs.Links.{stream_of, heard_of, OnlyReads, IsFront}
+use Rattle.auth_controller.specs.Links.{stream_of, HasHeard, IsFront, HasWritten}
 use Rattle.auth_controller.specs.declared.exchange.TheConstants.{ROOM}
 use Rattle.auth_controller.proofs.exchange.read_stream.Given as goal
 
@@ -12,11 +12,10 @@ invariant-pieces g l = record {
   dials : g.D.Dialer.dials l.dialer ≡ g.D.Dialer.dials l.fn.dialer;
   streams : g.D.Dialer.streams l.dialer ≡ g.D.Dialer.streams l.fn.dialer;
   known : IsTrue (is_some (g.D.Dialer.streams l.dialer));
-  told : IsTrue (is_some (g.D.Dialer.traffic l.dialer));
   quiet : g.D.Dialer.quiet l.dialer;
-  heard : heard_of (g.D.Dialer.traffic l.dialer) l.name ≡ l.text;
+  heard : HasHeard l.name (g.D.Dialer.traffic l.dialer) l.text;
   front : IsFront l.text (stream_of (g.D.Dialer.streams l.dialer) l.name);
-  reads : OnlyReads l.name (g.D.Dialer.traffic l.fn.dialer) (g.D.Dialer.traffic l.dialer);
+  wrote : HasWritten [] (g.D.Dialer.traffic l.fn.dialer) (g.D.Dialer.traffic l.dialer);
   end : l.more ≡ false → l.text ≡ stream_of (g.D.Dialer.streams l.fn.dialer) l.name;
 }
 

@@ -1,8 +1,10 @@
-use Rattle.std.proofs.Common.{ap, ◌∙◌}
+use Rattle.std.proofs.Common.{ap, ◌∙◌, subst}
 use Rattle.auth_runs.specs.Runs.{is_whole}
 use Rattle.auth_controller.specs.FirstPath.{link_in, server_space, answer_of, coded_events, ended, both_written}
 use Rattle.auth_controller.specs.Heard.{reply_in}
+use Rattle.auth_controller.specs.Links.{HasWritten}
 use Rattle.auth_controller.proofs.EventLemmas.{joined}
+use Rattle.auth_controller.proofs.LinkLemmas.{wrote-more}
 use Rattle.auth_controller.proofs.PromptLemmas.{asked_once}
 use Rattle.auth_controller.proofs.ReplyLemmas.{some_same}
 use Rattle.auth_controller.proofs.serve.serve_challenge.Goals as goal
@@ -30,6 +32,7 @@ returns-clause-served g c challenge realm login last first second given =
           ∙ ap (λ v. coded_events request challenge v last c.in_ok-code.code) same ∙ ap (coded_events request challenge login last) code;
       same_told = c.in_ok-close.ensures.told ∙ ap (λ v. ended v c.in_ok-identity.identity) space ∙ ap (ended (server_space request realm)) same;
       same_dials = c.in_ok-code.ensures.dials;
-      same_written = c.in_ok-code.ensures.written ∙ ap (both_written request) same;
+      same_written = subst (λ v. HasWritten (both_written request v) (g.D.Dialer.traffic c.args.dialer.now) (g.D.Dialer.traffic c.send_again.new.dialer)) same
+          (wrote-more _ _ _ _ _ c.in_ok-realm.ensures.wrote c.in_ok-code.ensures.wrote);
       same_asks = c.in_ok-identity.ensures.asks ∙ ap asked_once space;
     }

@@ -1,6 +1,7 @@
 use Rattle.std.proofs.Common.{◌≡◌, ◌<◌, Some, None, ap, sym, ◌∙◌, drop, arith}
 use Rattle.std.specs.List.{prefix_len}
-use Rattle.challenge_tokens.specs.Forms.{is_blank, value_behind, argument_form}
+use Rattle.field_lists.specs.Blanks.{is_blank}
+use Rattle.challenge_tokens.specs.Forms.{value_behind, argument_form}
 use Rattle.challenge_tokens.specs.Front.{front, sized, starts, is_over, unless_bad}
 use Rattle.challenge_tokens.proofs.HeadLemmas.{Gap, bare_read, value_found, no_space_read, blank_read, argument_read}
 use Rattle.challenge_tokens.proofs.head.behind_token.Goals as goal

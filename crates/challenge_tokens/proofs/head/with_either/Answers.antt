@@ -1,7 +1,7 @@
 use Rattle.std.proofs.Common.{◌==◌, true, false, Some, None, refl, ap, sym, ◌∙◌, drop}
 use Rattle.std.specs.List.{prefix_len}
 use Rattle.auth_text.specs.Text.{folded}
-use Rattle.challenge_tokens.specs.Forms.{is_blank}
+use Rattle.field_lists.specs.Blanks.{is_blank}
 use Rattle.challenge_tokens.specs.Front.{blank_piece, is_over, value_after}
 use Rattle.challenge_tokens.proofs.FrontLemmas.{blank_piece_is}
 use Rattle.challenge_tokens.proofs.ArgumentLemmas.{token_ends, token_fails, either_param}

@@ -1,7 +1,8 @@
 use Rattle.std.proofs.Common.{Some, None, refl, ap, sym, ◌∙◌, drop}
 use Rattle.std.specs.List.{prefix_len}
 use Rattle.auth_text.specs.Text.{folded}
-use Rattle.challenge_tokens.specs.Forms.{is_blank, value_behind, param_of}
+use Rattle.field_lists.specs.Blanks.{is_blank}
+use Rattle.challenge_tokens.specs.Forms.{value_behind, param_of}
 use Rattle.challenge_tokens.specs.Front.{front, sized}
 use Rattle.challenge_tokens.proofs.ReadLemmas.{param_read}
 use Rattle.challenge_tokens.proofs.ArgumentLemmas.{with_scheme, head_sized}

@@ -1,6 +1,7 @@
 use Rattle.std.proofs.Common.{Some, None, ap, sym, ◌∙◌, drop}
 use Rattle.std.specs.List.{prefix_len}
-use Rattle.challenge_tokens.specs.Forms.{is_blank, value_of}
+use Rattle.field_lists.specs.Blanks.{is_blank}
+use Rattle.challenge_tokens.specs.Forms.{value_of}
 use Rattle.challenge_tokens.specs.Front.{front, sized}
 use Rattle.challenge_tokens.proofs.ReadLemmas.{no_value_behind, value_read}
 use Rattle.challenge_tokens.proofs.scan.value_behind.Goals as goal

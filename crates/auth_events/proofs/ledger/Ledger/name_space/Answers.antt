@@ -1,10 +1,11 @@
 -- A space more.
-use Rattle.std.proofs.Common.{◌≡◌, ◌++◌, ◌∷◌, [], ◌+◌, length, ap, sym, subst, ◌∙◌, arith, Some, length-append}
+use Rattle.std.proofs.Common.{◌≡◌, ℕ, cond, Option, ◌++◌, ◌∷◌, [], ◌+◌, length, ap, sym, subst, ◌∙◌, arith, Some, length-append}
 use Rattle.std.proofs.Math.Logic.{∥∥₁_elim, ∥∥₁_map}
+use Rattle.std.specs.Prelude.{is_some}
 use Rattle.spaces.specs.Sites.{numbered}
 use Rattle.auth_events.specs.declared.told.NewName.{NewName}
 use Rattle.auth_events.specs.declared.told.NameKind.TheVariants.{Space as OfSpace}
-use Rattle.auth_events.specs.Tables.{Tables, space_number}
+use Rattle.auth_events.specs.Tables.{Tables, space_number, with_space}
 use Rattle.auth_events.specs.Told.{told_space, MayNameSpace}
 use Rattle.auth_events.specs.Ledgers.{told_of}
 use Rattle.auth_events.proofs.Numbers.{numbered-last}
@@ -30,6 +31,7 @@ invariant_of-self-2 c =
       few = l.few;
       requests = l.requests;
       kept = ∥∥₁_map l.kept (λ kept. kept_with_space l.roster l.names l.made.items l.journal.entries c.push_space.new.self c.push_reserved.new.self.items c.args.caller c.spaces_len-number.result (length c.entries.result.now) c.in_ok-copy.copy kept
+          c.in_ok-push_space.ensures.fit
           (subst (MayNameSpace l.roster l.names) (sym copied) c.requires.may) (ap (space_number l.names) copied ∙ c.requires.new)
           c.in_ok-push_space.ensures.ok c.spaces_len-number.ensures.len (ap length c.entries.ensures.entries)
           (c.push_reserved.ensures.items ∙ ap (λ made. made ++ name ∷ []) c.in_ok-reserve.ensures.items));
@@ -54,3 +56,10 @@ returns-clause-told c =
     c.in_ok-push_space.ensures.ok c.spaces_len-number.ensures.len (ap length c.entries.ensures.entries)
     (c.push_reserved.ensures.items ∙ ap (λ made. made ++ name ∷ []) c.in_ok-reserve.ensures.items)
     ∙ ap (told_space c.args.caller l.names (told_of l.names l.made.items l.journal.entries)) copied)
+
+pub returns-clause-named : goal.returns-clause-named
+returns-clause-named c =
+    let l = c.args.self.now in
+    c.in_ok-push_space.ensures.ok
+    ∙ (ap (with_space l.names) c.in_ok-copy.ensures
+    ∙ sym (ap (λ (o : Option ℕ). cond (is_some o) l.names (with_space l.names c.args.space.now)) c.requires.new))

@@ -1,14 +1,14 @@
 -- Terms more.
-use Rattle.std.proofs.Common.{◌≡◌, ◌++◌, ◌∷◌, [], ◌+◌, length, ap, sym, subst, ◌∙◌, arith, Some, Option, length-append}
+use Rattle.std.proofs.Common.{◌≡◌, ℕ, cond, ◌++◌, ◌∷◌, [], ◌+◌, length, ap, sym, subst, ◌∙◌, arith, Some, Option, length-append}
 use Rattle.spaces.specs.declared.terms.Terms.{Terms}
 use Rattle.std.proofs.Math.Logic.{∥∥₁_elim, ∥∥₁_map}
 use Rattle.std.specs.Coded.{le_prop}
-use Rattle.std.specs.Prelude.{IsTrue}
+use Rattle.std.specs.Prelude.{IsTrue, is_some}
 use Rattle.spaces.specs.Sites.{numbered}
 use Rattle.auth_events.specs.declared.told.NewName.{NewName}
 use Rattle.auth_events.specs.declared.names.TermsName.{TermsName}
 use Rattle.auth_events.specs.declared.told.NameKind.TheVariants.{Terms as OfTerms}
-use Rattle.auth_events.specs.Tables.{Tables, terms_number, nonce_for, is_home}
+use Rattle.auth_events.specs.Tables.{Tables, terms_number, nonce_for, is_home, with_terms}
 use Rattle.auth_events.specs.Told.{told_terms, MayNameTerms}
 use Rattle.auth_events.specs.Ledgers.{told_of}
 use Rattle.auth_events.proofs.Numbers.{numbered-last}
@@ -73,3 +73,13 @@ returns-clause-told c =
     c.in_ok-push_terms.ensures.ok c.terms_len-number.ensures.len (ap length c.entries.ensures.entries)
     (c.push_reserved.ensures.items ∙ ap (λ made. made ++ name ∷ []) c.in_ok-reserve.ensures.items)
     ∙ ap (told_terms c.args.caller l.names (told_of l.names l.made.items l.journal.entries) c.args.space) copied)
+
+pub returns-clause-named : goal.returns-clause-named
+returns-clause-named c =
+    let l = c.args.self.now in
+    let one : Terms → ℕ → TermsName = λ t n. record { space = c.args.space; terms = t; nonce = n } in
+    let named : TermsName = record { space = c.args.space; terms = c.args.terms.now; nonce = nonce_for l.names c.args.space c.args.terms.now } in
+    c.in_ok-push_terms.ensures.ok
+    ∙ (ap (λ t. with_terms l.names (one t c.nonce_for-nonce.result)) c.in_ok-copy.ensures
+    ∙ (ap (λ n. with_terms l.names (one c.args.terms.now n)) c.nonce_for-nonce.ensures
+    ∙ sym (ap (λ (o : Option ℕ). cond (is_some o) l.names (with_terms l.names named)) c.requires.new)))

@@ -3,6 +3,7 @@ use Rattle.std.proofs.Common.{◌++◌, ◌∷◌, [], length, ap, ◌∙◌, ar
 use Rattle.std.proofs.Math.Logic.{∥∥₁_elim, ∥∥₁_map}
 use Rattle.auth_events.specs.declared.told.NewName.{NewName}
 use Rattle.auth_events.specs.declared.told.NameKind.TheVariants.{Text as OfText}
+use Rattle.auth_events.specs.Tables.{with_text}
 use Rattle.auth_events.specs.Ledgers.{told_of}
 use Rattle.auth_events.proofs.Once.{same_told_prop}
 use Rattle.auth_events.proofs.RoomLemmas.{length-le-room}
@@ -36,3 +37,6 @@ returns-clause-told c =
     c.in_ok-push_text.ensures.ok c.texts_len-number.ensures.len (ap length c.entries.ensures.entries)
     (c.push_reserved.ensures.items ∙ ap (λ made. made ++ name ∷ []) c.in_ok-reserve.ensures.items)
     ∙ ap (λ text. told_of l.names l.made.items l.journal.entries ++ TextNamed c.args.caller text ∷ []) c.in_ok-copy.ensures)
+
+pub returns-clause-named : goal.returns-clause-named
+returns-clause-named c = c.in_ok-push_text.ensures.ok ∙ ap (with_text c.args.self.now.names) c.in_ok-copy.ensures

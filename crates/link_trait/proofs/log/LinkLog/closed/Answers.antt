@@ -4,7 +4,7 @@ use Rattle.link_trait.proofs.log.LinkLog.closed.Goals as goal
 
 pub invariant_of-self : goal.invariant_of-self
 invariant_of-self c =
-    (c.self.invariant.0, rw c.close_link.ensures (placed_closed c.args.name c.self.inside.«open».items c.self.inside.dials c.self.inside.traffic c.self.invariant.1))
+    (c.self.invariant.0, rw c.close_link.ensures (placed_closed c.args.name c.self.inside.«open».items c.self.inside.dials c.self.inside.traffic c.self.invariant.1), c.self.invariant.2)
 
-pub returns : goal.returns
-returns c = rw (c.close_link.ensures, names_closed, sym c.self.view_is) refl
+pub returns-clause-log : goal.returns-clause-log
+returns-clause-log c = rw (c.close_link.ensures, names_closed, sym c.self.view_is) refl

@@ -16,4 +16,8 @@ invariant_of-self-2 c =
       rw c.in_ok-push.ensures.ok (dialed_more it.traffic it.dials more c.self.invariant.0),
       rw (c.push_reserved.ensures.items, c.reserve.ensures.items, c.in_ok-push.ensures.ok)
           (placed_dialed it.«open».items it.dials it.traffic name to c.self.invariant.0 c.self.invariant.1 hasnt),
+      c.self.invariant.2,
     )
+
+pub returns-clause-kept : goal.returns-clause-kept
+returns-clause-kept c = let kept = invariant_of-self-2 c in record { dialed = kept.0; ended_last = kept.2 }

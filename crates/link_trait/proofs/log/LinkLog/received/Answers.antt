@@ -1,8 +1,8 @@
-use Rattle.std.proofs.Common.{◌≡◌, ◌∙◌, ℕ, ◌+◌, [], ◌∷◌, ◌++◌, sym, subst, true, ap, length}
+use Rattle.std.proofs.Common.{◌≡◌, ◌∙◌, ℕ, ◌+◌, [], ◌∷◌, ◌++◌, sym, subst, true, false, ap, length}
 use Rattle.link_trait.specs.declared.dialer.Traffic.TheVariants.{Received}
-use Rattle.link_trait.specs.Links.{has_link, heard_on}
+use Rattle.link_trait.specs.Links.{has_link, has_ended, heard_on}
 use Rattle.link_trait.specs.Recorded.{LogState, names_of}
-use Rattle.link_trait.proofs.LogLemmas.{found, dialed_event, placed_received, names_moved}
+use Rattle.link_trait.proofs.LogLemmas.{found, dialed_event, placed_received, names_moved, ended_last_received}
 use Rattle.link_trait.proofs.log.LinkLog.received.Goals as goal
 
 pub invariant_of-self-2 : goal.invariant_of-self-2
@@ -13,6 +13,8 @@ invariant_of-self-2 c =
     let place = c.place.result + length c.args.bytes.now in
     let has : has_link name (names_of it.«open».items) ≡ true =
     subst (λ (log : LogState). has_link name log.opened ≡ true) (sym c.self.view_is) c.requires.«open» in
+    let more : has_ended name it.traffic ≡ false =
+    subst (λ (log : LogState). has_ended name log.traffic ≡ false) (sym c.self.view_is) c.requires.more in
     let open_link = found name it.«open».items it.dials it.traffic c.self.invariant.1 has in
     let at : place ≡ length (heard_on name it.traffic) + length bytes =
     rw c.in_ok-bytes.ensures (ap (λ (n : ℕ). n + length c.args.bytes.now)
@@ -20,6 +22,7 @@ invariant_of-self-2 c =
       rw c.in_ok-push.ensures.ok (dialed_event it.traffic (Received name bytes) it.dials c.self.invariant.0 open_link.0),
       rw (c.move_to.ensures, c.in_ok-push.ensures.ok)
           (placed_received it.«open».items it.dials it.traffic name bytes place at c.self.invariant.1),
+      rw c.in_ok-push.ensures.ok (ended_last_received it.traffic name bytes more c.self.invariant.2),
     )
 
 pub returns-clause-ok : goal.returns-clause-ok
@@ -30,3 +33,6 @@ returns-clause-ok c =
       traffic = log.traffic ++ Received c.args.name c.args.bytes.now ∷ [];
       opened = log.opened;
     }) c.self.view_is)
+
+pub returns-clause-kept : goal.returns-clause-kept
+returns-clause-kept c = let kept = invariant_of-self-2 c in record { dialed = kept.0; ended_last = kept.2 }

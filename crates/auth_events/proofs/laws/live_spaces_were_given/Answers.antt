@@ -1,5 +1,0 @@
-use Rattle.auth_events.proofs.Holding.{given_and_kept, live_from}
-use Rattle.auth_events.proofs.laws.live_spaces_were_given.Goals as goal
-
-pub returns : goal.returns
-returns c = record { given = given_and_kept; live = live_from }

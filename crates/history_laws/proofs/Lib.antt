@@ -1,0 +1,9 @@
+pub mod Holding
+pub mod Prompting
+pub mod Leaving
+pub mod Homes
+pub mod Retiring
+pub mod Rooms
+pub mod Apart
+pub mod Leading
+pub mod Telling

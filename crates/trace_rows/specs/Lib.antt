@@ -1,0 +1,6 @@
+pub mod BasicSessions
+pub mod DigestSessions
+pub mod NegotiateSessions
+pub mod RoundsSessions
+pub mod SharedSessions
+pub mod Right

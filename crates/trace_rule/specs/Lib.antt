@@ -1,0 +1,17 @@
+pub mod Settings
+pub mod Challenges
+pub mod Holding
+pub mod Heads
+pub mod NextNonces
+pub mod Moves
+pub mod Closings
+pub mod Traces
+pub mod Growing
+pub mod Entries
+pub mod Serving
+pub mod Heard
+pub mod Telling
+pub mod Contexts
+pub mod Tapes
+pub mod Counting
+pub mod Laws

@@ -1,0 +1,9 @@
+//! Worked words and sessions, right and wrong.
+#![tactic(auto)]
+
+#[cfg(test)]
+mod first_path;
+#[cfg(test)]
+mod sessions;
+#[cfg(test)]
+mod words;
