@@ -1,6 +1,6 @@
 //! What gifts and numbers stand for, whatever source the identities came from.
 
-ghost use Rattle.std.specs.Prelude.{◌≡◌, find, reverse};
+ghost use Rattle.std.specs.Prelude.{◌≡◌, reverse};
 ghost use Rattle.auth_events.specs.Past.{gift_given};
 ghost use Rattle.auth_events.specs.Book.{is_that_gift};
 ghost use Rattle.auth_events.specs.Identities.{giving};
@@ -85,11 +85,13 @@ fn gives(reply: BookReply, gift: Gift) -> bool
 fn giving(entries: &[Entry], gift: Gift) -> Option<Entry>
     ensures { result ≡ giving (reverse entries.now) gift }
 {
-    entries
-        .iter()
-        .rev()
-        .find(|entry| gives(entry.reply, gift))
-        .copied()
+    let mut found = None;
+    for entry in entries {
+        if gives(entry.reply, gift) {
+            found = Some(*entry);
+        }
+    }
+    found
 }
 
 /// Sees that the gift stands for an identity of that user.
