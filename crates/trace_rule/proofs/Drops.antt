@@ -30,7 +30,8 @@ use Rattle.link_trait.specs.declared.steps.StepSeen.TheVariants.{Token, Done, Re
 use Rattle.auth_runs.specs.declared.event.Event.{Event}
 use Rattle.auth_runs.specs.declared.event.Event.TheVariants.{Called, Drew, Headed, Replied, LinkLost, AskedFor, Stepped}
 use Rattle.trace_rule.specs.Settings.{Setting, first_target, is_proxied, scheme_is, target_is, is_by_path}
-use Rattle.trace_rule.specs.Challenges.{Offer, challenges_target, supported, space_at, negotiate_challenge, token_in}
+use Rattle.negotiate_handler.specs.Tokens.{token_in}
+use Rattle.trace_rule.specs.Challenges.{Offer, challenges_target, supported, space_at, negotiate_challenge}
 use Rattle.trace_rule.specs.Holding.{Held, Decision, held, held_called, held_ready, held_selected, held_prompted, held_drew, held_stepped, held_headed, held_replied, held_lost, gift_held, deciding, terms_followed, is_no_mechanism}
 use Rattle.trace_rule.specs.Holding.Decision.{Negotiating, Offering}
 use Rattle.trace_rule.specs.Moves.{Asking}

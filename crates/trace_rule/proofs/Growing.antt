@@ -31,7 +31,8 @@ use Rattle.trace_rule.specs.Challenges.{Offer, challenged, challenges_target, su
 use Rattle.trace_rule.specs.Holding.{Held, Context, Decision, held, carried, bound, links, has_link, context_of, unsent, held_called, held_selected, held_prompted, held_drew, held_stepped, held_headed, held_replied, held_lost, gift_held, if_target, deciding, terms_followed, negotiates, last_reply, code, is_lost, stays}
 use Rattle.trace_rule.specs.Holding.Decision.{Negotiating, Offering}
 use Rattle.wire_head.specs.RequestHeads.{head}
-use Rattle.trace_rule.specs.Heads.{uri, drawn, field, field_of, digest_field, credentials, negotiate_credentials, head_text, keeps}
+use Rattle.negotiate_handler.specs.Tokens.{negotiate_credentials}
+use Rattle.trace_rule.specs.Heads.{uri, drawn, field, field_of, digest_field, credentials, head_text, keeps}
 use Rattle.trace_rule.specs.Moves.{Want, Move, move, go, spn, has_count, known, first_want, start_for, identity_held, loss_for, dial_for, draw_for, head_link, terms_offered, space_offered, choose, select, is_round, rounds, is_last_round, rejects, rejected, renewed, decided, weighed, replied, told, stepped, is_answered}
 use Rattle.trace_rule.specs.NextNonces.{next}
 use Rattle.trace_rule.specs.Closings.{want, with_nonce, renewal, renewal_of, renewal_for, renewals, is_challenged, note_of, note_for, notes, closings, is_closing, closings_made, next_closing, close, carried_out}
