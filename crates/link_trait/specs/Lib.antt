@@ -3,6 +3,7 @@ pub mod Streams
 pub mod Told
 pub mod Repeated
 pub mod Prompts
+pub mod Index
 pub mod PrompterLaws
 pub mod Links
 pub mod Recorded

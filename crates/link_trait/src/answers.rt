@@ -1,11 +1,11 @@
 //! The answers of a session: what prompts are answered with, space by space.
 
-ghost use Rattle.std.specs.Prelude.{◌≡◌, [], ◌∷◌, ◌++◌, ◌<◌, length, slice_get, IfErr, OnOk, OnErr, OnSome};
+ghost use Rattle.std.specs.Prelude.{◌≡◌, [], ◌∷◌, ◌++◌, ◌<◌, length, slice_get, IfOk, IfErr, OnOk, OnErr, OnSome};
 ghost use Rattle.std.specs.Option.{option_copied};
 ghost use Rattle.link_trait.specs.Repeated.{flat, times};
 
-use auth_text::{Identity, Items};
-use spaces::Space;
+use auth_text::{Identity, Items, NoMemory};
+use spaces::{Space, copy_identity, copy_space};
 use std::alloc::{AllocFailed, Global};
 use std::marker::Model;
 
@@ -35,6 +35,28 @@ impl Model for Answers {
     ghost view = { λ it. flat it.answers };
 
     ghost invariant = { λ it. it.len ≡ length (flat it.answers) };
+}
+
+/// A copy of the identity, where there is one.
+pub(crate) fn copy_given(identity: Option<&Identity>) -> Result<Option<Identity>, NoMemory>
+    ensures { IfOk result (λ copy. copy ≡ option_copied identity.entry) }
+{
+    match identity {
+        None => Ok(None),
+        Some(identity) => Ok(Some(copy_identity(identity)?)),
+    }
+}
+
+/// A copy of the answer, with the number of its repeats.
+pub(crate) fn copy_repeated(repeated: &Repeated) -> Result<Repeated, NoMemory>
+    ensures { IfOk result (λ copy. copy ≡ repeated.now) }
+{
+    let space = copy_space(&repeated.answer.0)?;
+    let given = copy_given(repeated.answer.1.as_ref())?;
+    Ok(Repeated {
+        answer: (space, given),
+        count: repeated.count,
+    })
 }
 
 // The answer at a place, counted from 0.

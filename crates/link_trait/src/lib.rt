@@ -13,8 +13,10 @@ mod prompts;
 mod recorded;
 mod script_tokens;
 mod scripts;
+mod space_key;
 mod steps;
 mod streams;
+mod table;
 mod taken;
 mod tokens;
 

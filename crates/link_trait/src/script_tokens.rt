@@ -5,8 +5,8 @@ ghost use Rattle.link_trait.specs.declared.steps.Step.TheVariants.{NoMechanism, 
 ghost use Rattle.link_trait.specs.declared.tokens.TokenCall.TheVariants.{Started, WentOn};
 ghost use Rattle.link_trait.specs.Tokens.{is_answered, step_at, taken_by, taking, are_quiet};
 
+use crate::answers::copy_given;
 use crate::numbering::numbered;
-use crate::scripts::copy_given;
 use crate::steps::{Step, Steps};
 use crate::taken::Taken;
 use crate::tokens::{TokenCall, Tokens};

@@ -1,68 +1,21 @@
 //! Prompters in memory, which answer as a session's answers say.
 
-ghost use Rattle.std.specs.Prelude.{◌≡◌, [], IfOk, option_copied};
+ghost use Rattle.std.specs.Prelude.{◌≡◌, [], IfOk};
 ghost use Rattle.link_trait.specs.Prompts.{answer_in};
-ghost use Rattle.link_trait.specs.Repeated.{flat};
 
-use crate::answers::{Answers, Repeated};
+use crate::answers::{Answers, copy_given};
 use crate::calls::{Calls, Failures};
 use crate::prompts::{Ask, Asked, Prompter};
-use auth_text::{Identity, Items, NoMemory};
-use spaces::{Space, copy_identity, copy_space, same_space};
+use crate::table::AnswerTable;
+use auth_text::{Items, NoMemory};
+use spaces::{Space, copy_space};
 use std::alloc::Global;
 use std::marker::Model;
-
-/// The answer to a space's prompt of an ordinal.
-fn answer_in<'a>(answers: &'a [Repeated], space: &Space, ordinal: u32) -> Option<&'a Identity>
-    ensures { option_copied result ≡ answer_in (flat answers.now) space.now ordinal }
-{
-    let mut left = ordinal as usize;
-    for repeated in answers {
-        if same_space(&repeated.answer.0, space) {
-            if left == 0 {
-                return None;
-            }
-            if left <= repeated.count {
-                return repeated.answer.1.as_ref();
-            }
-            left -= repeated.count;
-        }
-    }
-    None
-}
-
-// A copy of the identity, where there is one.
-pub(crate) fn copy_given(identity: Option<&Identity>) -> Result<Option<Identity>, NoMemory>
-    ensures { IfOk result (λ copy. copy ≡ option_copied identity.entry) }
-{
-    match identity {
-        None => Ok(None),
-        Some(identity) => Ok(Some(copy_identity(identity)?)),
-    }
-}
-
-fn copy_answer(answer: &(Space, Option<Identity>)) -> Result<(Space, Option<Identity>), NoMemory>
-    ensures { IfOk result (λ copy. copy ≡ answer.now) }
-{
-    let space = copy_space(&answer.0)?;
-    let given = copy_given(answer.1.as_ref())?;
-    Ok((space, given))
-}
-
-fn copy_answers(alloc: Global, answers: &[Repeated]) -> Result<Answers, NoMemory>
-    ensures { IfOk result (λ copies. copies ≡ flat answers.now) }
-{
-    let mut copies = Answers::new(alloc);
-    for repeated in answers {
-        copies.push_times(copy_answer(&repeated.answer)?, repeated.count)?;
-    }
-    Ok(copies)
-}
 
 /// A prompter that answers from a list, and cancels past a space's last answer. It never fails.
 #[derive(Drop)]
 pub struct ScriptPrompter {
-    answers: Answers,
+    answers: AnswerTable,
     asks: Items<Ask>,
 }
 
@@ -85,7 +38,7 @@ impl ScriptPrompter {
         ensures quiet { IfOk result (λ it. ⟦<ScriptPrompter as Prompter>⟧.quiet it) }
     {
         Ok(ScriptPrompter {
-            answers: copy_answers(alloc, answers.as_slice())?,
+            answers: AnswerTable::new(alloc, answers.as_slice())?,
             asks: Items::new(alloc),
         })
     }
@@ -114,7 +67,10 @@ impl Prompter for ScriptPrompter {
         let Ok(asked_for) = copy_space(space) else {
             return Asked::NoMemory;
         };
-        let Ok(given) = copy_given(answer_in(self.answers.as_slice(), space, ordinal)) else {
+        let Ok(found) = self.answers.answer_to(space, ordinal) else {
+            return Asked::NoMemory;
+        };
+        let Ok(given) = copy_given(found) else {
             return Asked::NoMemory;
         };
         match self.asks.push(Ask {
