@@ -1,0 +1,5 @@
+pub mod Rows
+pub mod Ways
+pub mod Counted
+pub mod Steps
+pub mod Sums

@@ -1,0 +1,7 @@
+//! Laws of a request's trace that nothing of its rule rests on: how long it is, where its tokens go,
+//! and whose identities its heads carry.
+#![tactic(auto)]
+
+mod lengths;
+
+pub use lengths::{events_are_few, pasts_leave_room};
