@@ -3,3 +3,4 @@ pub mod Ways
 pub mod Counted
 pub mod Steps
 pub mod Sums
+pub mod Contexts

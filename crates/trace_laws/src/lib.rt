@@ -2,6 +2,8 @@
 //! and whose identities its heads carry.
 #![tactic(auto)]
 
+mod bindings;
 mod lengths;
 
+pub use bindings::{pasts_keep_to_their_link, tokens_keep_to_their_link};
 pub use lengths::{events_are_few, pasts_leave_room};
