@@ -59,7 +59,7 @@ module _ (P : Option Held → Type 0) (nothing : P None) (given : (gift : Gift) 
   prompted s t terms (Gave gift) before p = either (target_is s gift.space t) (gift_held gift terms None) before (given gift terms None) p
   prompted s t terms _ before p = p
 
-  called : (s : Setting) (t : Target) (past : List Event) (call : Call) (reply : BookReply) (before : Option Held) → P before → P (held_called s t past call reply before)
+  pub called : (s : Setting) (t : Target) (past : List Event) (call : Call) (reply : BookReply) (before : Option Held) → P before → P (held_called s t past call reply before)
   called s t past (Preempt target) reply before p = either (same_target target t) (held_ready reply before) before (ready reply before p) p
   called s t past (Select space terms) reply before p = either (target_is s space t) (held_selected space terms reply before) before (selected space terms reply before p) p
   called s t past (Reject space ordinal) reply before p = either (target_is s space t) None before nothing p
@@ -230,7 +230,7 @@ bound_by s b link bytes t h none held_now scheme = at (held s b t) none held_now
         in_context x x.context refl (not_started x (scheme_is s x.gift.space Negotiate && is_none x.context) n)
         (subst (λ y. IsTrue (scheme_is s y.gift.space Negotiate)) (sym same) scheme) same
 
-token_keeps : (s : Setting) (past : List Event) (t : Target) (token : List ℕ) → IsPast s (Stepped t (Token token) ∷ past) → IsNextToken s past t (context_of (held s past t))
+pub token_keeps : (s : Setting) (past : List Event) (t : Target) (token : List ℕ) → IsPast s (Stepped t (Token token) ∷ past) → IsNextToken s past t (context_of (held s past t))
 token_keeps s past t token run = let f = step_for s past t (Token token) run in at f.0 f.1 f.2 f.3
   where
     goes : (link : ℕ) (reply : Reply) (before : List Event) (h : Held) (peer : List ℕ) → IsPast s (Replied link reply ∷ before) → held s before t ≡ Some h → deciding s reply t h ≡ Some (Negotiating (Some peer)) → ((t ≡ Proxy) ⊎ (t ≡ Server))

@@ -4,3 +4,6 @@ pub mod Counted
 pub mod Steps
 pub mod Sums
 pub mod Contexts
+pub mod Tokens
+pub mod AtHome
+pub mod OwnHeads

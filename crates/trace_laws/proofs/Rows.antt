@@ -26,6 +26,7 @@ use Rattle.trace_rule.specs.Holding.{Held, Decision, held, deciding, negotiates,
 use Rattle.trace_rule.specs.Holding.Decision.{Negotiating, Offering}
 use Rattle.trace_rule.specs.Moves.{Want, Move, Asking, move, go, known, terms_offered, space_offered, choose, select, is_last_round, rejects, rejected, renewed, decided, weighed, replied, told, asked, stepped, link_lost, is_answered}
 use Rattle.trace_rule.specs.Moves.Want.{Calls, Answers, Asks, Steps, Dials, Draws, Writes, Reads, Loses, Ends, Rests}
+use Rattle.trace_rule.specs.Moves.Asking.{Start, GoOn}
 use Rattle.trace_rule.specs.Moves.Move.{Goes, Closes}
 use Rattle.trace_rule.specs.Closings.{want, is_closing, carried_out}
 use Rattle.trace_rule.specs.Traces.{IsPast, IsRead, Follows}
@@ -34,8 +35,9 @@ use Rattle.trace_rule.proofs.Reasons.IsClosingStep.{by_call, by_outcome}
 
 -- THE ROWS
 
--- neither a dial, a draw, a head nor a reading
+-- neither a start, a dial, a draw, a head nor a reading
 abbrev pub IsAside : Move → Type 0
+IsAside (Goes (Steps t (Start spn identity))) = ⊥
 IsAside (Goes (Dials link)) = ⊥
 IsAside (Goes (Draws t n)) = ⊥
 IsAside (Goes (Writes link bytes)) = ⊥
@@ -226,16 +228,16 @@ no_aside {P} s past e plain a next = at (move s past) refl a next
     ask p (AskedFor prompt seen) (inr h) f = absurd (false≢true h)
     ask p _ h f = absurd f
 
-    step : (t : Target) (x : Event) → IsPlain x → (asking : Asking) → Follows s past (Steps t asking) x → P
-    step t (Stepped target seen) (inl h) asking f = absurd (false≢true h)
-    step t (Stepped target seen) (inr h) asking f = absurd (false≢true h)
-    step t _ h asking f = absurd f
+    step : (t : Target) (peer : List ℕ) (x : Event) → IsPlain x → Follows s past (Steps t (GoOn peer)) x → P
+    step t peer (Stepped target seen) (inl h) f = absurd (false≢true h)
+    step t peer (Stepped target seen) (inr h) f = absurd (false≢true h)
+    step t peer _ h f = absurd f
 
     at_want : (w : Want) → IsAside (Goes w) → Follows s past w e → P
     at_want (Calls w) a f = call w e plain f
     at_want (Answers p t) a f = answer p t e plain f
     at_want (Asks p) a f = ask p e plain f
-    at_want (Steps t asking) a f = step t e plain asking f
+    at_want (Steps t (GoOn peer)) a f = step t peer e plain f
     at_want (Loses link) a f = lost link (subst IsPlain f plain)
     at_want (Ends o) a f = out o (subst IsPlain f plain)
     at_want Rests a f = absurd f

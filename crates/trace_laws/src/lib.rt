@@ -3,7 +3,9 @@
 #![tactic(auto)]
 
 mod bindings;
+mod homes;
 mod lengths;
 
 pub use bindings::{pasts_keep_to_their_link, tokens_keep_to_their_link};
+pub use homes::heads_carry_their_own;
 pub use lengths::{events_are_few, pasts_leave_room};
