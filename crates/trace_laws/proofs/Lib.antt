@@ -7,3 +7,5 @@ pub mod Contexts
 pub mod Tokens
 pub mod AtHome
 pub mod OwnHeads
+pub mod Outcomes
+pub mod Settling

@@ -35,8 +35,9 @@ use Rattle.trace_rule.proofs.Reasons.IsClosingStep.{by_call, by_outcome}
 
 -- THE ROWS
 
--- neither a start, a dial, a draw, a head nor a reading
+-- neither a start, a dial, a draw, a head, a reading nor an outcome
 abbrev pub IsAside : Move → Type 0
+IsAside (Goes (Ends outcome)) = ⊥
 IsAside (Goes (Steps t (Start spn identity))) = ⊥
 IsAside (Goes (Dials link)) = ⊥
 IsAside (Goes (Draws t n)) = ⊥
@@ -209,10 +210,6 @@ no_aside {P} s past e plain a next = at (move s past) refl a next
     lost link (inl h) = absurd (false≢true h)
     lost link (inr h) = absurd (false≢true h)
 
-    out : (x : Outcome) → IsPlain (Ended x) → P
-    out x (inl h) = absurd (false≢true h)
-    out x (inr h) = absurd (false≢true h)
-
     call : (w : Call) (x : Event) → IsPlain x → Follows s past (Calls w) x → P
     call w (Called c reply) (inl h) f = absurd (false≢true h)
     call w (Called c reply) (inr h) f = absurd (false≢true h)
@@ -239,7 +236,6 @@ no_aside {P} s past e plain a next = at (move s past) refl a next
     at_want (Asks p) a f = ask p e plain f
     at_want (Steps t (GoOn peer)) a f = step t peer e plain f
     at_want (Loses link) a f = lost link (subst IsPlain f plain)
-    at_want (Ends o) a f = out o (subst IsPlain f plain)
     at_want Rests a f = absurd f
     at_want _ a f = absurd a
 

@@ -1,3 +1,4 @@
 pub mod Lengths
 pub mod Bindings
 pub mod Homes
+pub mod Endings
