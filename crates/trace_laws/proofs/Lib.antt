@@ -9,3 +9,4 @@ pub mod AtHome
 pub mod OwnHeads
 pub mod Outcomes
 pub mod Settling
+pub mod Hearing

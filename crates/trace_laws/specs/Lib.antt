@@ -2,3 +2,4 @@ pub mod Lengths
 pub mod Bindings
 pub mod Homes
 pub mod Endings
+pub mod Sources

@@ -6,8 +6,10 @@ mod bindings;
 mod endings;
 mod homes;
 mod lengths;
+mod sources;
 
 pub use bindings::{pasts_keep_to_their_link, tokens_keep_to_their_link};
 pub use endings::{cuts_are_allowed, losses_are_allowed, prompts_are_settled, traces_are_whole};
 pub use homes::heads_carry_their_own;
 pub use lengths::{events_are_few, pasts_leave_room};
+pub use sources::traces_are_determined_by_streams;
