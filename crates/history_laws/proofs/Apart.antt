@@ -13,10 +13,10 @@ use Rattle.auth_events.specs.declared.journal.BookReply.TheVariants.{Url, Given}
 use Rattle.auth_events.specs.declared.journal.Entry.{Entry}
 use Rattle.auth_events.specs.Tables.{Tables}
 use Rattle.auth_events.specs.Past.{age, evicted, evicted_by, gift_given, gift_used, gives, is_of, is_ready, is_removed, live, live_rivals, live_spaces, rejects, takes_away, terms, terms_in, touches, victim}
-use Rattle.auth_events.specs.Book.{IsLegalPast, IsStep, is_noted, is_rival, is_site_of, notes, space_named}
+use Rattle.auth_events.specs.Book.{IsLegalPast, IsStep, is_noted, is_of_partition, is_rival, is_site_of, notes, space_named}
 use Rattle.history_laws.specs.Laws.{IsAsBefore, LeaveOthersAlone, LeavesOthersAlone, is_site_named}
 use Rattle.auth_events.proofs.Numbers.{and_right}
-use Rattle.auth_events.proofs.Same.{bytes_refl, number_same}
+use Rattle.auth_events.proofs.Same.{bytes_refl, bytes_same, number_same}
 use Rattle.history_laws.proofs.Holding.{current_kept}
 use Rattle.history_laws.proofs.Leaving.{GivesNext, GivesNone, and_false, gives_next}
 use Rattle.history_laws.proofs.Homes.{asked_site}
@@ -70,6 +70,23 @@ rival_itself names test s named = of (space_named names s) named
     of : (o : Option ProtectionSpace) → IsTrue (unwrap_or (option_map test o) false) → IsTrue (unwrap_or (option_map (λ (space : ProtectionSpace). unwrap_or (option_map (λ (held : ProtectionSpace). bytes_eq held.site.partition space.site.partition) o) false) o) false)
     of None named' = absurd (false≢true named')
     of (Some space) named' = bytes_refl space.site.partition
+
+-- a space of a partition competes with none of another one
+pub no_rival : (names : Tables) (partition : List ℕ) (u s : ℕ) → is_of_partition names partition u ≡ false → is_of_partition names partition s ≡ true → is_rival names u s ≡ false
+no_rival names partition u s out own = of (space_named names u) out
+  where
+    same : (o : Option ProtectionSpace) (other : List ℕ) → IsTrue (unwrap_or (option_map (λ (space : ProtectionSpace). bytes_eq space.site.partition partition) o) false) → IsTrue (unwrap_or (option_map (λ (space : ProtectionSpace). bytes_eq space.site.partition other) o) false) → other ≡ partition
+    same None other is_own is_other = absurd (false≢true is_own)
+    same (Some space) other is_own is_other = sym (bytes_same space.site.partition other is_other) ∙ bytes_same space.site.partition partition is_own
+
+    by : (other : List ℕ) → bytes_eq other partition ≡ false → (b : Bool) → is_of_partition names other s ≡ b → b ≡ false
+    by other apart true is =
+        absurd (false≢true (sym apart ∙ subst (λ p. IsTrue (bytes_eq p partition)) (sym (same (space_named names s) other own is)) (bytes_refl partition)))
+    by other apart false is = refl
+
+    of : (o : Option ProtectionSpace) → unwrap_or (option_map (λ (space : ProtectionSpace). bytes_eq space.site.partition partition) o) false ≡ false → unwrap_or (option_map (λ (space : ProtectionSpace). is_of_partition names space.site.partition s) o) false ≡ false
+    of None out' = refl
+    of (Some space) out' = by space.site.partition out' (is_of_partition names space.site.partition s) refl
 
 module _ (roster : Roster) (names : Tables) (past : List Entry) (entry : Entry) (gift : Gift) (s : ℕ) (given : gift_given entry.reply ≡ Some gift) where
   module _ (next : GivesNext names past entry.call entry.reply) (named : IsTrue (is_site_named roster names entry.request next.space)) (apart : is_rival names next.space s ≡ false) where

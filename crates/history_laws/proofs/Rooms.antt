@@ -321,7 +321,7 @@ module _ (mine : ℕ → Bool) where
         of false dead = given_anew evicts dead
 
 -- who competes with a space of the partition: the partition's
-rivals_of : (names : Tables) (partition : List ℕ) (s : ℕ) → IsTrue (is_of_partition names partition s) → is_rival names s ≡ is_of_partition names partition
+pub rivals_of : (names : Tables) (partition : List ℕ) (s : ℕ) → IsTrue (is_of_partition names partition s) → is_rival names s ≡ is_of_partition names partition
 rivals_of names partition s own = of (space_named names s) own
   where
     of : (o : Option ProtectionSpace) → IsTrue (unwrap_or (option_map (λ (space : ProtectionSpace). bytes_eq space.site.partition partition) o) false) → ◌≡◌ {A = ℕ → Bool} (λ other. unwrap_or (option_map (λ (space : ProtectionSpace). is_of_partition names space.site.partition other) o) false) (is_of_partition names partition)
