@@ -20,16 +20,16 @@ use Rattle.auth_events.specs.Book.{IsLegalPast, IsStep, first_choice, is_of_part
 use Rattle.auth_events.proofs.Numbers.{and_left, and_right}
 use Rattle.auth_events.proofs.Same.{number_same, number_refl}
 use Rattle.history_laws.specs.Partitions.{concerns}
-use Rattle.history_laws.proofs.Apart.{all_left_alone, no_rival}
+use Rattle.history_laws.proofs.Apart.{all_left_alone, differ, no_rival}
 use Rattle.history_laws.proofs.Holding.{current_kept}
-use Rattle.history_laws.proofs.Leaving.{GivesNone, GivesNext, gives_next}
+use Rattle.history_laws.proofs.Leaving.{and_false, no_space, GivesNone, GivesNext, gives_next}
 use Rattle.history_laws.proofs.Rooms.{live_given, zero_unused}
 use Rattle.history_laws.proofs.Telling.{current_space}
 use Rattle.auth_cache.specs.declared.cache.Held.{Held}
 use Rattle.auth_cache.specs.Cached.{held_in, put_in, touched, with_terms, without, evicted as evicted_in}
 use Rattle.auth_cache.specs.Histories.{HasLive, held_after, entries_after, entries_told}
 use Rattle.auth_cache.proofs.Lists.{Touched, found_without, AllPairs-tail, without_first}
-use Rattle.auth_cache.proofs.Steps.{Leaves, differ, kept_in, leaves_by, leaves_held, held_taken, nothing_moves, one_goes, one_comes, other_moves, touch_moves, set_moves}
+use Rattle.auth_cache.proofs.Steps.{Leaves, kept_in, leaves_by, leaves_held, held_taken, nothing_moves, one_goes, one_comes, other_moves, touch_moves, set_moves}
 use Rattle.auth_cache.proofs.Evictions.{evicts}
 
 -- WHAT A SPACE HOLDS
@@ -82,14 +82,7 @@ abbrev entry_of : ℕ → ℕ → Call → BookReply → Entry
 entry_of caller r call reply = record { caller = caller; request = r; call = call; reply = reply }
 
 no_zero : (s : ℕ) → (not (s == 0) && 0 == s) ≡ false
-no_zero s = grind (arith, nat_tests)
-
-and_no : (a : Bool) → (a && false) ≡ false
-and_no true = refl
-and_no false = refl
-
-no_more : (a : Bool) (s : ℕ) → (a && false || not (s == 0) && 0 == s) ≡ false
-no_more a s = ap (λ b. b || not (s == 0) && 0 == s) (and_no a) ∙ no_zero s
+no_zero s = no_space false s refl
 
 -- A GIVING
 
@@ -141,7 +134,7 @@ module _ (is_in : ℕ → Bool) (entry : Entry) (past : List Entry) (xs : List H
   full v rest is goes =
       one_comes is_in entry past rest h (AllPairs-tail past v rest ordered) (All-tail (λ k. not (k.gift.space == u) ≡ true) v rest apart) touches_is elsewhere
       (in_rest u ∙ ap (λ o. cond (v.gift.space == u) None o) without_u ∙ none_in (v.gift.space == u))
-      (comes (ap (λ n. not (u == 0) && n == u) goes ∙ (ap (λ b. not (u == 0) && b) not_u ∙ and_no (not (u == 0)))))
+      (comes (ap (λ n. not (u == 0) && n == u) goes ∙ (ap (λ b. not (u == 0) && b) not_u ∙ and_false (not (u == 0)))))
     where
       none_in : (b : Bool) → ◌≡◌ {A = Option Held} (cond b None None) None
       none_in true = refl
@@ -182,7 +175,7 @@ module _ (is_in : ℕ → Bool) (entry : Entry) (past : List Entry) (xs : List H
           at true same c is_c = gone_none c c is_c same
           at false differ c is_c =
               before s other
-              ∙ leaves_held is_in entry past s (leaves s other (ap (λ n. not (s == 0) && n == s) goes ∙ (ap (λ b. not (s == 0) && b) differ ∙ and_no (not (s == 0)))))
+              ∙ leaves_held is_in entry past s (leaves s other (ap (λ n. not (s == 0) && n == s) goes ∙ (ap (λ b. not (s == 0) && b) differ ∙ and_false (not (s == 0)))))
 
   pub put_moves : HasLive is_in (entry ∷ past) (put_in 32 xs h)
   put_moves = at (nat_lt (length zs) 32) refl gone_is zs refl
@@ -314,7 +307,7 @@ module _ (roster : Roster) (names : Tables) (partition : List ℕ) (past : List 
       here in_it =
           ap (λ b. cond b (held_after (entry ∷ past) gift.space) None) in_it
           ∙ (ap (λ o. option_map (λ (g : Gift). record { gift = g; terms = terms (entry ∷ past) gift.space }) o) (current_kept entry past gift.space (kept gift.space) refl ∙ holds)
-          ∙ ap (λ b. Some (record { gift = gift; terms = cond b (terms_in call) (terms past gift.space) })) (and_no (gift.space == gift.space)))
+          ∙ ap (λ b. Some (record { gift = gift; terms = cond b (terms_in call) (terms past gift.space) })) (and_false (gift.space == gift.space)))
 
   is_removed : (caller r s o : ℕ) → Has caller r (Reject s o) Removed
   is_removed caller r s o =
@@ -340,7 +333,7 @@ module _ (roster : Roster) (names : Tables) (partition : List ℕ) (past : List 
   step caller r (Select s t) (Follow p) is fit = quiet caller r (Select s t) (Follow p) refl no_zero refl (λ n. refl)
   step caller r (Select s t) (Lead p o) is fit = quiet caller r (Select s t) (Lead p o) refl no_zero refl (λ n. refl)
   step caller r (Reject s o) Removed is fit = is_removed caller r s o
-  step caller r (Reject s o) (Kept n) is fit = quiet caller r (Reject s o) (Kept n) refl (λ m. no_more (s == m) m) refl (λ m. refl)
+  step caller r (Reject s o) (Kept n) is fit = quiet caller r (Reject s o) (Kept n) refl (λ m. no_space ((s == m) && false) m (and_false (s == m))) refl (λ m. refl)
   step caller r (Renew gift t) Renewed is fit = retermed (entry_of caller r (Renew gift t) Renewed) gift t no_zero refl (λ n. refl) refl refl (that_gift past gift Renewed (Kept _) is.1 (λ same. cc))
   step caller r (Renew gift t) (Kept n) is fit = quiet caller r (Renew gift t) (Kept n) refl no_zero refl (λ m. refl)
   step caller r (Answer p x t) (Given gift gone) is fit = is_given caller r p x t gift gone is

@@ -10,6 +10,7 @@ use Rattle.auth_events.specs.declared.journal.Gift.{Gift}
 use Rattle.auth_events.specs.declared.journal.Entry.{Entry}
 use Rattle.auth_events.specs.Past.{age, current, gives, is_ready, live, takes_away, terms, terms_in, touches}
 use Rattle.auth_events.proofs.Same.{number_same, number_refl}
+use Rattle.history_laws.proofs.Apart.{differ}
 use Rattle.history_laws.proofs.Holding.{current_taken, current_kept}
 use Rattle.auth_cache.specs.declared.cache.Held.{Held}
 use Rattle.auth_cache.specs.Cached.{held_in, retermed, touched, with_terms, without}
@@ -49,14 +50,6 @@ none_live is_in past dead = record {
     at s false out o is = refl
     at s true passes None is = refl
     at s true passes (Some gift) is = absurd (false≢true (sym (dead s passes) ∙ ap is_some is))
-
--- a space that passes is another than one that doesn't
-pub differ : (is_in : ℕ → Bool) (u s : ℕ) → is_in u ≡ false → is_in s ≡ true → (u == s) ≡ false
-differ is_in u s out passes = of (u == s) refl
-  where
-    of : (b : Bool) → (u == s) ≡ b → b ≡ false
-    of true same = absurd (false≢true (sym out ∙ subst (λ n. is_in n ≡ true) (sym (number_same u s same)) passes))
-    of false other = refl
 
 -- a cache has entries of spaces that pass the test
 all_pass : (is_in : ℕ → Bool) (past : List Entry) (xs : List Held) → HasLive is_in past xs → All (λ h. is_in h.gift.space ≡ true) xs

@@ -71,6 +71,14 @@ rival_itself names test s named = of (space_named names s) named
     of None named' = absurd (false≢true named')
     of (Some space) named' = bytes_refl space.site.partition
 
+-- a space that passes is another than one that doesn't
+pub differ : (is_in : ℕ → Bool) (u s : ℕ) → is_in u ≡ false → is_in s ≡ true → (u == s) ≡ false
+differ is_in u s out passes = of (u == s) refl
+  where
+    of : (b : Bool) → (u == s) ≡ b → b ≡ false
+    of true same = absurd (false≢true (sym out ∙ subst (λ n. is_in n ≡ true) (sym (number_same u s same)) passes))
+    of false other = refl
+
 -- a space of a partition competes with none of another one
 pub no_rival : (names : Tables) (partition : List ℕ) (u s : ℕ) → is_of_partition names partition u ≡ false → is_of_partition names partition s ≡ true → is_rival names u s ≡ false
 no_rival names partition u s out own = of (space_named names u) out

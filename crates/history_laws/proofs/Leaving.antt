@@ -87,7 +87,7 @@ or_no : (a b : Bool) → (a && false || b) ≡ b
 or_no true b = refl
 or_no false b = refl
 
-no_space : (a : Bool) (s : ℕ) → a ≡ false → (a || not (s == 0) && 0 == s) ≡ false
+pub no_space : (a : Bool) (s : ℕ) → a ≡ false → (a || not (s == 0) && 0 == s) ≡ false
 no_space a s fails = grind (arith, nat_tests)
 
 pub and_false : (a : Bool) → (a && false) ≡ false
