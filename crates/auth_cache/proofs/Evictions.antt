@@ -5,7 +5,6 @@ use Rattle.std.proofs.lemmas.Bool.Decides.{nat_tests}
 use Rattle.std.proofs.lemmas.Bool.{false≢true}
 use Rattle.std.proofs.lemmas.List.{length-map}
 use Rattle.std.proofs.lemmas.List.Elements.{All-head, All-tail, All-filter, filter_passes}
-use Rattle.std.proofs.lemmas.List.Sums.{sum_by-cons}
 use Rattle.spaces.specs.declared.roster.Roster.{Roster}
 use Rattle.auth_events.specs.declared.journal.Gift.{Gift}
 use Rattle.auth_events.specs.declared.journal.Entry.{Entry}
@@ -13,46 +12,13 @@ use Rattle.auth_events.specs.Tables.{Tables}
 use Rattle.auth_events.specs.Past.{age, current, live, live_spaces, live_rivals, spaces_given, terms, greatest_by, greater_by, victim, evicted, givings}
 use Rattle.auth_events.specs.Book.{IsLegalPast, is_of_partition, is_rival}
 use Rattle.auth_events.proofs.Same.{number_same, number_refl}
+use Rattle.history_laws.proofs.Counts.{as_long, times_cons}
 use Rattle.history_laws.proofs.Prompting.{one_if}
 use Rattle.history_laws.proofs.Rooms.{times, times_filtered, live_given, zero_unused, live_few, rivals_of}
 use Rattle.auth_cache.specs.declared.cache.Held.{Held}
 use Rattle.auth_cache.specs.Cached.{held_in, without, evicted as evicted_in}
 use Rattle.auth_cache.specs.Histories.{HasLive, held_after}
 use Rattle.auth_cache.proofs.Lists.{Touched, found_holds, found_space, lt_is, none_there, without_fewer, AllPairs-first, AllPairs-tail, first_alone}
-
--- LISTS WITH THE SAME NUMBERS ARE AS LONG
-
--- without the first of that number
-abbrev less : ℕ → List ℕ → List ℕ
-less a [] = []
-less a (b ∷ bs) = cond (b == a) bs (b ∷ less a bs)
-
-times_cons : (s x : ℕ) (xs : List ℕ) → times s (x ∷ xs) ≡ one_if (x == s) + times s xs
-times_cons s x xs = sum_by-cons (λ y. cond (y == s) 1 0) x xs
-
-less_shorter : (a : ℕ) (bs : List ℕ) → 0 < times a bs → length bs ≡ length (less a bs) + 1
-less_shorter a [] some = absurd (omega arith)
-less_shorter a (b ∷ bs) some = at (b == a) refl (λ more. less_shorter a bs more)
-  where
-    at : (t : Bool) → (b == a) ≡ t → (0 < times a bs → length bs ≡ length (less a bs) + 1) → length (b ∷ bs) ≡ length (cond t bs (b ∷ less a bs)) + 1
-    at true is before = omega arith
-    at false is before = omega (arith, before (omega (arith, times_cons a b bs, ap one_if is)))
-
-less_times : (s a : ℕ) (bs : List ℕ) → 0 < times a bs → times s bs ≡ one_if (a == s) + times s (less a bs)
-less_times s a [] some = absurd (omega arith)
-less_times s a (b ∷ bs) some = at (b == a) refl (λ more. less_times s a bs more)
-  where
-    at : (t : Bool) → (b == a) ≡ t → (0 < times a bs → times s bs ≡ one_if (a == s) + times s (less a bs)) → times s (b ∷ bs) ≡ one_if (a == s) + times s (cond t bs (b ∷ less a bs))
-    at true is before = times_cons s b bs ∙ ap (λ n. one_if (n == s) + times s bs) (number_same b a is)
-    at false is before =
-        omega (arith, times_cons s b bs, times_cons s b (less a bs), before (omega (arith, times_cons a b bs, ap one_if is)))
-
-same_length : (cs bs : List ℕ) → ((s : ℕ) → times s cs ≡ times s bs) → length cs ≡ length bs
-same_length [] [] same = refl
-same_length [] (b ∷ bs) same = absurd (omega (arith, same b, times_cons b b bs, ap one_if (number_refl b)))
-same_length (a ∷ cs) bs same =
-    let some : 0 < times a bs = omega (arith, same a, times_cons a a cs, ap one_if (number_refl a)) in
-    omega (arith, less_shorter a bs some, same_length cs (less a bs) (λ s. omega (arith, same s, times_cons s a cs, less_times s a bs some)))
 
 -- THE GREATEST
 
@@ -181,7 +147,7 @@ module _ (roster : Roster) (names : Tables) (partition : List ℕ) (past : List 
 
   -- as many entries as live rivals
   pub as_many : length xs ≡ length (live_rivals is_in past)
-  as_many = sym (length-map xs (λ h. h.gift.space)) ∙ same_length (spaces_of xs) (live_rivals is_in past) same_times
+  as_many = sym (length-map xs (λ h. h.gift.space)) ∙ as_long (spaces_of xs) (live_rivals is_in past) same_times
 
   pub few_entries : length xs ≤ 32
   few_entries = omega (arith, as_many, (live_few roster names past legal).few partition)

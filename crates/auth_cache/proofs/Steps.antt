@@ -1,13 +1,17 @@
 -- One entry more, and the entries of a cache of the spaces that pass a test.
 use Rattle.std.proofs.Common.{◌≡◌, ℕ, suc, Bool, true, false, not, ◌&&◌, cond, get_or, List, [], ◌∷◌, ◌++◌, refl, ap, sym, subst, ◌∙◌, arith, Option, Some, None}
-use Rattle.std.specs.Prelude.{All, AllPairs, IsTrue, is_some, option_map, option_to_list, ◌==◌}
+use Rattle.std.specs.Prelude.{All, AllPairs, IsTrue, bytes_eq, is_some, option_map, option_to_list, unwrap_or, ◌==◌}
 use Rattle.std.proofs.lemmas.Bool.Decides.{nat_tests}
 use Rattle.std.proofs.lemmas.Bool.{false≢true}
 use Rattle.std.proofs.lemmas.List.Elements.{filter_passes}
 use Rattle.std.proofs.lemmas.List.Kept.{AllPairs-filter}
 use Rattle.std.proofs.lemmas.List.Quantifiers.{all_pairs_push}
+use Rattle.spaces.specs.ProtectionSpaces.{ProtectionSpace}
+use Rattle.spaces.specs.Sites.{numbered}
 use Rattle.auth_events.specs.declared.journal.Gift.{Gift}
 use Rattle.auth_events.specs.declared.journal.Entry.{Entry}
+use Rattle.auth_events.specs.Tables.{Tables}
+use Rattle.auth_events.specs.Book.{is_of_partition}
 use Rattle.auth_events.specs.Past.{age, current, gives, is_ready, live, takes_away, terms, terms_in, touches}
 use Rattle.auth_events.proofs.Same.{number_same, number_refl}
 use Rattle.history_laws.proofs.Apart.{differ}
@@ -50,6 +54,24 @@ none_live is_in past dead = record {
     at s false out o is = refl
     at s true passes None is = refl
     at s true passes (Some gift) is = absurd (false≢true (sym (dead s passes) ∙ ap is_some is))
+
+-- the same entries under more names
+pub lasts : (names more : Tables) (partition : List ℕ) (past : List Entry) (xs : List Held) → ((s : ℕ) → live past s ≡ true → numbered more.spaces s ≡ numbered names.spaces s) → HasLive (is_of_partition names partition) past xs → HasLive (is_of_partition more partition) past xs
+lasts names more partition past xs same has = record { each = λ s. has.each s ∙ at s (current past s) refl; order = has.order }
+  where
+    none_in : (a b : Bool) → ◌≡◌ {A = Option Held} (cond a None None) (cond b None None)
+    none_in true true = refl
+    none_in true false = refl
+    none_in false true = refl
+    none_in false false = refl
+
+    Kept : Bool → ℕ → Option Gift → Option Held
+    Kept b s o = cond b (option_map (λ (gift : Gift). record { gift = gift; terms = terms past s }) o) None
+
+    at : (s : ℕ) (o : Option Gift) → current past s ≡ o → Kept (is_of_partition names partition s) s o ≡ Kept (is_of_partition more partition s) s o
+    at s None is = none_in (is_of_partition names partition s) (is_of_partition more partition s)
+    at s (Some gift) is =
+        ap (λ o. Kept (unwrap_or (option_map (λ (space : ProtectionSpace). bytes_eq space.site.partition partition) o) false) s (Some gift)) (sym (same s (ap is_some is)))
 
 -- a cache has entries of spaces that pass the test
 all_pass : (is_in : ℕ → Bool) (past : List Entry) (xs : List Held) → HasLive is_in past xs → All (λ h. is_in h.gift.space ≡ true) xs

@@ -3,6 +3,7 @@
 //! legal histories of any book.
 
 ghost use Rattle.std.specs.Prelude.{◌≡◌, ◌≤◌, ◌∷◌, [], length, ℕ, Bool, true, false, List, option_map, unwrap_or};
+ghost use Rattle.spaces.specs.Sites.{numbered};
 ghost use Rattle.spaces.specs.declared.roster.Roster.{Roster};
 ghost use Rattle.auth_events.specs.declared.journal.Entry.{Entry};
 ghost use Rattle.auth_events.specs.Tables.{Tables};
@@ -47,4 +48,13 @@ pub fn evicts_as_the_book()
         → is_of_partition names partition s ≡ true
         → unwrap_or (option_map (λ held. held.gift.space) (evicted 32 entries s)) 0
         ≡ evicted_space (is_rival names s) past s }
+{}
+
+/// A cache of a partition has its live spaces under other names too, where those of live spaces stay:
+/// so it lasts when more is named.
+pub fn lasts_under_more_names()
+    ensures { (names more : Tables) (partition : List ℕ) (past : List Entry) (entries : List Held)
+        → ((s : ℕ) → live past s ≡ true → numbered more.spaces s ≡ numbered names.spaces s)
+        → HasLive (is_of_partition names partition) past entries
+        → HasLive (is_of_partition more partition) past entries }
 {}

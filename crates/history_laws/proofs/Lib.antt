@@ -5,5 +5,6 @@ pub mod Homes
 pub mod Retiring
 pub mod Rooms
 pub mod Apart
+pub mod Counts
 pub mod Leading
 pub mod Telling

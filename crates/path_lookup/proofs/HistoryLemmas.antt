@@ -63,7 +63,7 @@ module _ (roster : Roster) (names : Tables) (sites : ℕ → ℕ) (is_in : ℕ �
   later = λ k d within. let there = has.before k d within in omega (arith, there)
 
   -- each note is of a space that passes
-  all_pass : All (λ (one : Placed). is_in one.note.space ≡ true) has.placed
+  pub all_pass : All (λ (one : Placed). is_in one.note.space ≡ true) has.placed
   all_pass = λ k d within.
       let s = (get_or has.placed k d).note.space in
       of (is_in s) (dirs roster names past s) (subst (λ ds. 0 < length ds) (has.each s) (own_dirs roster has.placed k d within))
@@ -215,7 +215,7 @@ module _ (roster : Roster) (names : Tables) where
   noted_live past r s call reply is noted_it = absurd (false≢true noted_it)
 
   -- a space that isn't live has no directories
-  dead_dirs : (past : List Entry) → IsLegalPast roster names past → (s : ℕ) → live past s ≡ false → dirs roster names past s ≡ []
+  pub dead_dirs : (past : List Entry) → IsLegalPast roster names past → (s : ℕ) → live past s ≡ false → dirs roster names past s ≡ []
   dead_dirs [] legal s dead = refl
   dead_dirs (entry ∷ past) legal s dead =
       at (takes_away entry s) refl (notes entry.call s && is_noted entry.reply) refl (live past s) refl (λ before. dead_dirs past legal.0 s before)

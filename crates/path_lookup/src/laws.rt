@@ -3,6 +3,7 @@
 //! legal histories of any book.
 
 ghost use Rattle.std.specs.Prelude.{◌≡◌, ◌∷◌, [], ◌==◌, ℕ, Bool, true, false, IsTrue, List, unwrap_or};
+ghost use Rattle.spaces.specs.Sites.{numbered};
 ghost use Rattle.spaces.specs.declared.roster.Roster.{Roster};
 ghost use Rattle.spaces.specs.declared.site.Site.{Site};
 ghost use Rattle.auth_events.specs.declared.journal.Entry.{Entry};
@@ -10,7 +11,7 @@ ghost use Rattle.auth_events.specs.Tables.{Tables};
 ghost use Rattle.auth_events.specs.Past.{live};
 ghost use Rattle.auth_events.specs.Book.{IsLegalPast, by_path, is_of_partition, is_of_site};
 ghost use Rattle.path_lookup.specs.declared.index.Note.{Note};
-ghost use Rattle.path_lookup.specs.Notes.{deepest};
+ghost use Rattle.path_lookup.specs.Notes.{deepest, has_free_row};
 ghost use Rattle.path_lookup.specs.Histories.{HasDirs, notes_told};
 
 /// An empty index has the directories of a partition that has no live space: of each before the first
@@ -44,4 +45,26 @@ pub fn finds_by_path()
         → HasDirs roster names sites (is_of_partition names place.partition) past notes
         → ((s : ℕ) → IsTrue (live past s) → is_of_site names place s ≡ (sites s == n))
         → deepest roster n path notes ≡ unwrap_or (by_path roster names past place path) 0 }
+{}
+
+/// An index with room for 32 spaces has room for a directory of each live space of its partition.
+pub fn has_room_for_live_spaces()
+    ensures { (roster : Roster) (names : Tables) (sites : ℕ → ℕ) (partition : List ℕ)
+        (past : List Entry) (notes : List Note) (s : ℕ)
+        → IsLegalPast roster names past
+        → HasDirs roster names sites (is_of_partition names partition) past notes
+        → is_of_partition names partition s ≡ true → live past s ≡ true
+        → IsTrue (has_free_row 32 notes s) }
+{}
+
+/// An index of a partition has its directories under other names and site numbers too, where those of
+/// live spaces stay: so it lasts when more is named.
+pub fn lasts_under_more_names()
+    ensures { (roster : Roster) (names more : Tables) (sites more_sites : ℕ → ℕ) (partition : List ℕ)
+        (past : List Entry) (notes : List Note)
+        → IsLegalPast roster names past → IsLegalPast roster more past
+        → ((s : ℕ) → live past s ≡ true → numbered more.spaces s ≡ numbered names.spaces s)
+        → ((s : ℕ) → live past s ≡ true → more_sites s ≡ sites s)
+        → HasDirs roster names sites (is_of_partition names partition) past notes
+        → HasDirs roster more more_sites (is_of_partition more partition) past notes }
 {}
