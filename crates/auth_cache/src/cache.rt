@@ -1,6 +1,6 @@
-//! The cache: one entry for each live space, the one touched last at the end, so that the first is the
-//! one to give up. Its bound is at most 32, so each call looks at no more entries than that, and it
-//! takes no memory but its own.
+//! The cache: one entry for each live space, the one touched last at the end, so that the first is
+//! the one to give up. Its bound is at most 32, so each call looks at no more entries than that,
+//! and it takes no memory but its own.
 
 ghost use Rattle.std.specs.Prelude.{◌≡◌, ◌≤◌, ◌<◌, [], IsTrue, IfSome, is_some, length, option_map, Some, None, find, map, ◌||◌, nat_lt};
 ghost use Rattle.auth_cache.specs.Cached.{evicted, held_in, is_of, put_in, removal, taken_out, touched, with_terms, without, retermed};
@@ -73,11 +73,13 @@ impl AuthCache {
         }
     }
 
-    /// Keeps the gift and its terms for its space, as the entry that was touched last. Where the space
-    /// has no entry and there is no room for one, the entry that was not touched for longest goes, and
-    /// is the answer.
+    /// Keeps the gift and its terms for its space, as the entry that was touched last. Where the
+    /// space has no entry and there is no room for one, the entry that was not touched for longest
+    /// goes, and is the answer.
     pub fn put(&mut self, gift: Gift, terms: u32) -> Option<Held>
-        ensures after { self.new ≡ record self.old { entries = put_in self.old.bound self.old.entries (record { gift = gift; terms = terms }) } }
+        ensures after { self.new ≡ record self.old {
+          entries = put_in self.old.bound self.old.entries (record { gift = gift; terms = terms });
+        } }
         ensures evicted { result ≡ evicted self.old.bound self.old.entries gift.space }
     {
         drop_space(&mut self.entries, gift.space);
@@ -90,8 +92,8 @@ impl AuthCache {
         gone
     }
 
-    /// The entry that would go if a gift of the space were put now. It changes nothing, so a book can
-    /// name who is evicted before it gives.
+    /// The entry that would go if a gift of the space were put now. It changes nothing, so a book
+    /// can name who is evicted before it gives.
     pub fn outgoing(&self, space: u32) -> Option<Held>
         ensures { result ≡ evicted self.now.bound self.now.entries space }
     {

@@ -1,6 +1,6 @@
 //! A cache that is told what happens in the spaces of its partition has the live ones of the
-//! history. Each law is the contract of a function that does nothing, so the check proves it for all
-//! legal histories of any book.
+//! history. Each law is the contract of a function that does nothing, so the check proves it for
+//! all legal histories of any book.
 
 ghost use Rattle.std.specs.Prelude.{◌≡◌, ◌≤◌, ◌∷◌, [], length, ℕ, Bool, true, false, List, option_map, unwrap_or};
 ghost use Rattle.spaces.specs.Sites.{numbered};
@@ -13,17 +13,17 @@ ghost use Rattle.auth_cache.specs.declared.cache.Held.{Held};
 ghost use Rattle.auth_cache.specs.Cached.{evicted};
 ghost use Rattle.auth_cache.specs.Histories.{HasLive, entries_told};
 
-/// An empty cache has the live spaces of a partition that has none: of each before the first entry,
-/// and of one whose first space is named later.
+/// An empty cache has the live spaces of a partition that has none: of each before the first
+/// entry, and of one whose first space is named later.
 pub fn starts_empty()
     ensures { (is_in : ℕ → Bool) (past : List Entry)
         → ((s : ℕ) → is_in s ≡ true → live past s ≡ false)
         → HasLive is_in past [] }
 {}
 
-/// After each entry of a legal history, a cache of a partition that is told each entry about a space
-/// of that partition has the live spaces of the partition, in order of touch, each with its gift and
-/// its terms. Entries about other partitions leave it as it is.
+/// After each entry of a legal history, a cache of a partition that is told each entry about a
+/// space of that partition has the live spaces of the partition, in order of touch, each with its
+/// gift and its terms. Entries about other partitions leave it as it is.
 pub fn keeps_the_live_spaces()
     ensures { (roster : Roster) (names : Tables) (partition : List ℕ)
         (past : List Entry) (entry : Entry) (entries : List Held)
@@ -50,8 +50,8 @@ pub fn evicts_as_the_book()
         ≡ evicted_space (is_rival names s) past s }
 {}
 
-/// A cache of a partition has its live spaces under other names too, where those of live spaces stay:
-/// so it lasts when more is named.
+/// A cache of a partition has its live spaces under other names too, where those of live spaces
+/// stay: so it lasts when more is named.
 pub fn lasts_under_more_names()
     ensures { (names more : Tables) (partition : List ℕ) (past : List Entry) (entries : List Held)
         → ((s : ℕ) → live past s ≡ true → numbered more.spaces s ≡ numbered names.spaces s)

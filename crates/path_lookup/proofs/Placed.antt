@@ -1,10 +1,10 @@
 -- Notes with their places: what an added or a dropped directory does to each space's.
-use Rattle.std.proofs.Common.{◌≡◌, ℕ, zero, suc, ◌<◌, Bool, true, false, not, ◌&&◌, ◌||◌, cond, get_or, List, [], ◌∷◌, ◌++◌, length, drop, refl, ap, sym, subst, ◌∙◌, arith}
+use Rattle.std.proofs.Common.{◌≡◌, ℕ, suc, ◌<◌, Bool, true, false, not, ◌&&◌, ◌||◌, cond, get_or, List, [], ◌∷◌, ◌++◌, length, drop, refl, ap, sym, subst, ◌∙◌, arith}
 use Rattle.std.specs.Prelude.{All, AllPairs, filter, map, count_by, ◌==◌, nat_lt}
 use Rattle.std.specs.List.{list_any}
 use Rattle.std.proofs.lemmas.Bool.{false≢true}
 use Rattle.std.proofs.lemmas.List.Elements.{All-nil, All-cons, All-head, All-tail, All-push, All-filter}
-use Rattle.std.proofs.lemmas.List.Kept.{AllPairs-filter}
+use Rattle.std.proofs.lemmas.List.Kept.{AllPairs-cons, AllPairs-filter}
 use Rattle.std.proofs.lemmas.List.Quantifiers.{all_pairs_push}
 use Rattle.std.proofs.lemmas.List.Sums.{sum_by-cons}
 use Rattle.spaces.specs.Paths.{covers}
@@ -295,12 +295,6 @@ pairs_first R one placed pairs = λ j d within. pairs 0 (suc j) d (omega arith) 
 pairs_rest : (R : Placed → Placed → Type 0) (one : Placed) (placed : List Placed) → AllPairs R (one ∷ placed) → AllPairs R placed
 pairs_rest R one placed pairs = λ i j d before within. pairs (suc i) (suc j) d (omega arith) (omega arith)
 
-pairs_cons : (R : Placed → Placed → Type 0) (one : Placed) (placed : List Placed) → All (R one) placed → AllPairs R placed → AllPairs R (one ∷ placed)
-pairs_cons R one placed first rest zero zero d before within = absurd (omega arith)
-pairs_cons R one placed first rest zero (suc j) d before within = first j d (omega arith)
-pairs_cons R one placed first rest (suc i) zero d before within = absurd (omega arith)
-pairs_cons R one placed first rest (suc i) (suc j) d before within = rest i j d (omega arith) (omega arith)
-
 pub dropped_pairs : (R : Placed → Placed → Type 0) (s : ℕ) (placed : List Placed) → AllPairs R placed → AllPairs R (drop_placed s placed)
 dropped_pairs R s [] pairs = pairs
 dropped_pairs R s (one ∷ placed) pairs =
@@ -308,7 +302,7 @@ dropped_pairs R s (one ∷ placed) pairs =
   where
     at : (b : Bool) → All (R one) placed → AllPairs R placed → AllPairs R (drop_placed s placed) → AllPairs R (cond b placed (one ∷ drop_placed s placed))
     at true first rest before = rest
-    at false first rest before = pairs_cons R one (drop_placed s placed) (dropped_all (R one) s placed first) before
+    at false first rest before = AllPairs-cons R one (drop_placed s placed) (dropped_all (R one) s placed first) before
 
 module _ (roster : Roster) (note : Note) (place : ℕ) (placed : List Placed) where
   abbrev new : Placed

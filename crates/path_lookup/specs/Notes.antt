@@ -16,9 +16,11 @@ pub record Index : Type 0 where
 abbrev pub dir_at : Roster → Note → List ℕ
 dir_at roster note = dir_of (path_of roster note.request note.target)
 
+-- the note is of the space
 abbrev pub is_of : ℕ → Note → Bool
 is_of s note = note.space == s
 
+-- the notes of the other spaces
 abbrev pub without : ℕ → List Note → List Note
 without s notes = filter (λ note. not (note.space == s)) notes
 
@@ -31,6 +33,7 @@ abbrev pub is_covered : Roster → Note → List Note → Bool
 is_covered roster note notes =
     list_any (λ held. held.space == note.space && covers (dir_at roster held) (dir_at roster note)) notes
 
+-- without the first note of the space
 abbrev pub drop_first : ℕ → List Note → List Note
 drop_first s [] = []
 drop_first s (note ∷ notes) = if note.space == s then notes else note ∷ drop_first s notes
@@ -57,6 +60,7 @@ rows (note ∷ notes) = note.space ∷ filter (λ s. not (s == note.space)) (row
 abbrev pub has_free_row : ℕ → List Note → ℕ → Bool
 has_free_row spaces notes s = list_any (is_of s) notes || nat_lt (length (rows notes)) spaces
 
+-- there are at most so many rows, and of each at most ten notes
 pub record AreWithinRows (spaces : ℕ) (notes : List Note) : Type 0 where
   pub few : length (rows notes) ≤ spaces
   pub ten : (s : ℕ) → count_by (is_of s) notes ≤ 10

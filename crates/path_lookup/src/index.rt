@@ -1,6 +1,7 @@
-//! The index: notes in the order in which they were added, each of a directory of a space. A note keeps
-//! whose path its directory is of, and no copy of it: the roster has the path. All room is taken at
-//! once, and each call goes over the notes of its index alone, at most ten for each of its spaces.
+//! The index: notes in the order in which they were added, each of a directory of a space. A note
+//! keeps whose path its directory is of, and no copy of it: the roster has the path. All room is
+//! taken at once, and each call goes over the notes of its index alone, at most ten for each of
+//! its spaces.
 
 ghost use Rattle.std.specs.Prelude.{◌≡◌, ◌≤◌, ◌<◌, ◌*◌, ◌++◌, ◌∷◌, ◌||◌, ◌==◌, [], IfOk, IsTrue, is_some, length, drop, take, not, option_map, unwrap_or, nat_lt, nat_le, filter, ◌&&◌, count_by, vec_capacity, IfSome};
 ghost use Rattle.std.specs.List.{list_any, position_from};
@@ -13,8 +14,8 @@ use spaces::{Roster, Target, covers, dir_of};
 use std::alloc::Global;
 use std::marker::Model;
 
-/// A directory of a space, whose site has that number: the directory of the request's path, or `/` for
-/// a proxy.
+/// A directory of a space, whose site has that number: the directory of the request's path, or `/`
+/// for a proxy.
 #[derive(Clone, Copy)]
 struct Note {
     space: u32,
@@ -53,15 +54,23 @@ impl PathIndex {
         Ok(PathIndex { spaces, notes })
     }
 
-    /// Notes the directory of the request's path, or `/` for a proxy, as one of the space, whose site has
-    /// that number. It isn't added where a directory of the space covers it. Where it is added, those
-    /// that it covers go, and of more than ten the one that was added first.
+    /// Notes the directory of the request's path, or `/` for a proxy, as one of the space, whose
+    /// site has that number. It isn't added where a directory of the space covers it. Where it is
+    /// added, those that it covers go, and of more than ten the one that was added first.
     ///
-    /// An index has the request's number, so it is only asked with the roster that it was noted with.
+    /// An index has the request's number, so it is only asked with the roster that it was noted
+    /// with.
     pub fn add(&mut self, roster: &Roster, space: u32, site: u32, request: u32, target: Target)
         requires row { IsTrue (has_free_row self.old.spaces self.old.notes space) }
         requires request { IsTrue (is_some (numbered roster.now.requests request)) }
-        ensures { self.new ≡ record self.old { notes = added roster.now (record { space = space; site = site; request = request; target = target }) self.old.notes } }
+        ensures { self.new ≡ record self.old {
+          notes = added roster.now (record {
+            space = space;
+            site = site;
+            request = request;
+            target = target;
+          }) self.old.notes;
+        } }
     {
         let note = Note {
             space,
@@ -84,8 +93,8 @@ impl PathIndex {
         drop_notes(&mut self.notes, space);
     }
 
-    /// The space of the site with the longest directory that covers the path (RFC 7617 section 2.2), of
-    /// equally long ones that whose directory was added last; 0 where there is none.
+    /// The space of the site with the longest directory that covers the path (RFC 7617 section
+    /// 2.2), of equally long ones that whose directory was added last; 0 where there is none.
     pub fn deepest(&self, roster: &Roster, site: u32, path: &[u8]) -> u32
         ensures { result ≡ deepest roster.now site path.now self.now.notes }
     {

@@ -1,6 +1,6 @@
 //! An index that is told what happens in the spaces of its partition has their directories of the
-//! history. Each law is the contract of a function that does nothing, so the check proves it for all
-//! legal histories of any book.
+//! history. Each law is the contract of a function that does nothing, so the check proves it for
+//! all legal histories of any book.
 
 ghost use Rattle.std.specs.Prelude.{◌≡◌, ◌∷◌, [], ◌==◌, ℕ, Bool, true, false, IsTrue, List, unwrap_or};
 ghost use Rattle.spaces.specs.Sites.{numbered};
@@ -14,18 +14,19 @@ ghost use Rattle.path_lookup.specs.declared.index.Note.{Note};
 ghost use Rattle.path_lookup.specs.Notes.{deepest, has_free_row};
 ghost use Rattle.path_lookup.specs.Histories.{HasDirs, notes_told};
 
-/// An empty index has the directories of a partition that has no live space: of each before the first
-/// entry, and of one whose first space is named later.
+/// An empty index has the directories of a partition that has no live space: of each before the
+/// first entry, and of one whose first space is named later.
 pub fn starts_empty()
-    ensures { (roster : Roster) (names : Tables) (sites : ℕ → ℕ) (is_in : ℕ → Bool) (past : List Entry)
+    ensures { (roster : Roster) (names : Tables) (sites : ℕ → ℕ) (is_in : ℕ → Bool)
+        (past : List Entry)
         → IsLegalPast roster names past
         → ((s : ℕ) → is_in s ≡ true → live past s ≡ false)
         → HasDirs roster names sites is_in past [] }
 {}
 
-/// After each entry of a legal history, an index of a partition that is told each entry about a space
-/// of that partition has the directories of the partition's live Basic and Digest spaces, in the order
-/// in which they were added. Entries about other partitions leave it as it is.
+/// After each entry of a legal history, an index of a partition that is told each entry about a
+/// space of that partition has the directories of the partition's live Basic and Digest spaces, in
+/// the order in which they were added. Entries about other partitions leave it as it is.
 pub fn keeps_the_directories()
     ensures { (roster : Roster) (names : Tables) (sites : ℕ → ℕ) (partition : List ℕ)
         (past : List Entry) (entry : Entry) (notes : List Note)
@@ -57,11 +58,11 @@ pub fn has_room_for_live_spaces()
         → IsTrue (has_free_row 32 notes s) }
 {}
 
-/// An index of a partition has its directories under other names and site numbers too, where those of
-/// live spaces stay: so it lasts when more is named.
+/// An index of a partition has its directories under other names and site numbers too, where those
+/// of live spaces stay: so it lasts when more is named.
 pub fn lasts_under_more_names()
-    ensures { (roster : Roster) (names more : Tables) (sites more_sites : ℕ → ℕ) (partition : List ℕ)
-        (past : List Entry) (notes : List Note)
+    ensures { (roster : Roster) (names more : Tables) (sites more_sites : ℕ → ℕ)
+        (partition : List ℕ) (past : List Entry) (notes : List Note)
         → IsLegalPast roster names past → IsLegalPast roster more past
         → ((s : ℕ) → live past s ≡ true → numbered more.spaces s ≡ numbered names.spaces s)
         → ((s : ℕ) → live past s ≡ true → more_sites s ≡ sites s)

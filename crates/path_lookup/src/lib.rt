@@ -1,5 +1,6 @@
-//! Where credentials are sent ahead (RFC 7617 section 2.2, after Chromium): the directories under which
-//! the spaces of one partition were asked for, and the space whose directory covers a path best.
+//! Where credentials are sent ahead (RFC 7617 section 2.2, after Chromium): the directories under
+//! which the spaces of one partition were asked for, and the space whose directory covers a path
+//! best.
 #![tactic(auto)]
 
 mod index;
