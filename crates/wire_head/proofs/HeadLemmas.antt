@@ -56,7 +56,7 @@ is_head_of bytes h is =
       few,
     ) refl
 
-head_is : (bytes : List ℕ) (h : ResponseHead) → is_head bytes h ≡ true → IsHead bytes h
+pub head_is : (bytes : List ℕ) (h : ResponseHead) → is_head bytes h ≡ true → IsHead bytes h
 head_is bytes h is =
     let a = both _ (nat_le (length h.fields) 256) is in
     let b = both _ (bytes_eq bytes (print_response h)) a.0 in

@@ -1,6 +1,7 @@
 pub mod ChunkLemmas
 pub mod ChunkPlaces
 pub mod CutLemmas
+pub mod FinalCodes
 pub mod FinalHeadLemmas
 pub mod HeadBackLemmas
 pub mod HeadLemmas
@@ -8,6 +9,7 @@ pub mod HeadLengthLemmas
 pub mod LineLemmas
 pub mod MoveLemmas
 pub mod NumberLemmas
+pub mod OpenTexts
 pub mod PlaceLemmas
 pub mod ProgressLemmas
 pub mod ReadingStates

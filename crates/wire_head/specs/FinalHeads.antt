@@ -1,5 +1,5 @@
 -- What a reply carries of its final head.
-use Rattle.std.specs.Prelude.{◌≡◌, ℕ, suc, zero, ◌-◌, ◌==◌, ◌&&◌, Bool, false, List, [], ◌∷◌, codes, length, take, Option, Some, None, Ok, if◌then◌else◌}
+use Rattle.std.specs.Prelude.{◌≡◌, ℕ, suc, zero, ◌-◌, ◌==◌, ◌&&◌, not, nat_le, Bool, false, List, [], ◌∷◌, codes, length, take, Option, Some, None, Ok, if◌then◌else◌}
 use Rattle.spaces.specs.declared.roster.Method.{Method}
 use Rattle.wire_head.specs.declared.reply.Reply.{Reply}
 use Rattle.wire_head.specs.declared.response_head.ReplyHead.{ReplyHead}
@@ -35,6 +35,10 @@ pub record Carries (h : ReplyHead) (r : Reply) : Type 0 where
   pub of_proxy : r.code ≡ 407 → r.fields ≡ values_of (codes "Proxy-Authenticate") h.fields
   pub told_by_server : is_challenge r.code ≡ false → r.server_info ≡ values_of (codes "Authentication-Info") h.fields
   pub told_by_proxy : is_challenge r.code ≡ false → r.proxy_info ≡ values_of (codes "Proxy-Authentication-Info") h.fields
+
+-- three digits, and no interim reply's code
+abbrev pub is_final : ℕ → Bool
+is_final code = nat_le code 999 && not (is_interim code)
 
 -- a challenge has no infos, and another reply has no challenges
 abbrev pub values_fit : Reply → Bool

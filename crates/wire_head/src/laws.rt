@@ -1,13 +1,13 @@
 //! What the definition of a reply says as a whole, and of some texts.
 
-ghost use Rattle.std.specs.Prelude.{◌≡◌, ◌++◌, [], ◌∷◌, codes, Bool, true, false, Some, None, Ok, List, ℕ, length, ◌<◌};
+ghost use Rattle.std.specs.Prelude.{◌≡◌, ◌++◌, [], ◌∷◌, codes, Bool, true, false, Some, None, Ok, List, ℕ, length, ◌+◌, ◌<◌, ◌≤◌};
 ghost use Rattle.wire_head.specs.Replies.{is_challenge, progress, reply};
 ghost use Rattle.wire_head.specs.Lines.{head_len};
 ghost use Rattle.wire_head.specs.ReadHeads.{IsHeadOf, is_fit, written};
 ghost use Rattle.wire_head.specs.declared.head_reader.ReadHead.{ReadHead};
 ghost use Rattle.spaces.specs.declared.roster.Method.{Method};
 ghost use Rattle.wire_head.specs.Rows.{ok, told, challenged, with_line, empty_row, chunked_row, cut_row, info_row, both_row, both_of_server, both_of_proxy, challenge_row, next_nonce};
-ghost use Rattle.wire_head.specs.FinalHeads.{IsShown, Carries, final_head, values_fit};
+ghost use Rattle.wire_head.specs.FinalHeads.{IsShown, Carries, final_head, is_final, values_fit};
 ghost use Rattle.wire_head.specs.declared.reply.Reply.{Reply};
 ghost use Rattle.wire_head.specs.declared.response_head.ReplyHead.{ReplyHead};
 ghost use Rattle.spaces.specs.declared.roster.Method.TheVariants.{Get};
@@ -28,7 +28,7 @@ pub fn heads_read_back()
 {}
 
 /// A challenge has no infos and another reply has no challenges; what a reply carries are the values of
-/// its final head.
+/// its final head, whose code is no interim one.
 pub fn carried()
     ensures challenge { (text : List ℕ) (r : Reply) → IsShown text r → is_challenge r.code ≡ true
         → (r.server_info ≡ []) × (r.proxy_info ≡ []) }
@@ -36,6 +36,7 @@ pub fn carried()
     ensures in_order { (text : List ℕ) (r : Reply) → IsShown text r
         → (h : ReplyHead) × (final_head text ≡ Some h) × Carries h r }
     ensures fit { (text : List ℕ) (r : Reply) → IsShown text r → values_fit r ≡ true }
+    ensures last_code { (text : List ℕ) (r : Reply) → IsShown text r → is_final r.code ≡ true }
 {}
 
 /// Worked examples.
@@ -53,10 +54,12 @@ pub fn worked()
     ensures challenge { progress Get challenge_row ≡ Whole challenged 119 }
 {}
 
-/// The limits.
+/// The limits. A text that decides nothing is within those of the heads and of the body together.
 pub fn limits()
     ensures head { (method : Method) (text : List ℕ) → head_len text ≡ None → 65536 < length text
         → progress method text ≡ Fault HeadTooLong }
     ensures body { (text : List ℕ) → length text ≡ 1048576
         → progress Get (with_line (codes "Content-Length: 1048576") ++ text) ≡ Whole (ok true 1048576) 1048620 }
+    ensures undecided { (method : Method) (text : List ℕ) → reply method text false ≡ Ok None
+        → length text ≤ 65536 + 1048576 }
 {}

@@ -1,3 +1,4 @@
+use Rattle.wire_head.proofs.FinalCodes.{shown_final}
 use Rattle.wire_head.proofs.FinalHeadLemmas.{challenge_no_infos, other_no_challenges, shown_carries, shown_values_fit}
 use Rattle.wire_head.proofs.laws.carried.Goals as goal
 
@@ -7,4 +8,5 @@ returns c = record {
   other = other_no_challenges;
   in_order = shown_carries;
   fit = shown_values_fit;
+  last_code = shown_final;
 }

@@ -10,6 +10,7 @@ use Rattle.httparse.proofs.OnLiterals.{httparse_on_literals}
 use Rattle.wire_head.specs.Lines.{head_len}
 use Rattle.wire_head.specs.Rows.{ok}
 use Rattle.wire_head.specs.Replies.{progress, heads, first_head, is_too_long, front_len, by_front}
+use Rattle.wire_head.proofs.OpenTexts.{undecided_short}
 use Rattle.wire_head.proofs.laws.limits.Goals as goal
 
 too_long : (text : List ℕ) → 65536 < length text → is_too_long 0 text ≡ true
@@ -34,3 +35,6 @@ pub returns-clause-body : goal.returns-clause-body
 unfolding httparse_on_literals
 returns-clause-body c text len =
     ap (λ (n : ℕ). cond (nat_le 1048576 n) (Whole (ok true 1048576) 1048620) (Open None)) len
+
+pub returns-clause-undecided : goal.returns-clause-undecided
+returns-clause-undecided c = undecided_short
