@@ -21,7 +21,8 @@ use Rattle.link_trait.specs.declared.steps.StepSeen.TheVariants.{Token, NoMechan
 use Rattle.auth_runs.specs.declared.event.Event.{Event}
 use Rattle.auth_runs.specs.declared.event.Event.TheVariants.{Called, Drew, Headed, Replied, LinkLost, Stepped}
 use Rattle.trace_rule.specs.Settings.{Setting, or_else, scheme_is, target_is}
-use Rattle.trace_rule.specs.Challenges.{Offer, challenges_target, supported, space_at, negotiate_challenge, token_in, peer_token}
+use Rattle.negotiate_handler.specs.Tokens.{token_in}
+use Rattle.trace_rule.specs.Challenges.{Offer, challenges_target, supported, space_at, negotiate_challenge, peer_token}
 use Rattle.trace_rule.specs.Holding.{Held, Context, Decision, held, held_called, held_ready, held_selected, held_prompted, held_drew, held_stepped, held_headed, held_replied, held_lost, gift_held, deciding, context_of, carried_on, links, terms_followed}
 use Rattle.trace_rule.specs.Holding.Decision.{Negotiating, Offering}
 use Rattle.trace_rule.specs.Heads.{head_text}

@@ -21,7 +21,8 @@ use Rattle.auth_runs.specs.declared.event.Event.TheVariants.{Called, Headed}
 use Rattle.trace_rule.specs.Settings.{Setting, scheme_is}
 use Rattle.trace_rule.specs.Holding.{Held, Context, held, unsent}
 use Rattle.trace_rule.specs.Entries.{AreEntries, calls}
-use Rattle.trace_rule.specs.Heads.{credentials, digest_field, field, field_of, negotiate_credentials}
+use Rattle.negotiate_handler.specs.Tokens.{negotiate_credentials}
+use Rattle.trace_rule.specs.Heads.{credentials, digest_field, field, field_of}
 use Rattle.trace_rule.specs.Serving.{setting_in}
 use Rattle.trace_rule.specs.Traces.{IsPast, IsRun, IsCut, IsTrace, prompt_open, with_loss}
 use Rattle.trace_rule.proofs.Holdings.{WasTold, AreTold, told_held, calls_go_on}

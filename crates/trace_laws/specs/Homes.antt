@@ -20,7 +20,8 @@ use Rattle.auth_runs.specs.declared.event.Event.{Event}
 use Rattle.auth_runs.specs.declared.event.Event.TheVariants.{Headed, Stepped}
 use Rattle.trace_rule.specs.Settings.{Setting, or_else}
 use Rattle.trace_rule.specs.Entries.{AreEntries}
-use Rattle.trace_rule.specs.Heads.{credentials, digest_field, keeps, negotiate_credentials, uri}
+use Rattle.negotiate_handler.specs.Tokens.{negotiate_credentials}
+use Rattle.trace_rule.specs.Heads.{credentials, digest_field, keeps, uri}
 use Rattle.trace_rule.specs.Moves.{Asking, Want, spn}
 use Rattle.trace_rule.specs.Moves.Asking.{Start}
 use Rattle.trace_rule.specs.Moves.Want.{Steps}
