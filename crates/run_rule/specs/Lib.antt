@@ -1,0 +1,6 @@
+pub mod Outside
+pub mod Naming
+pub mod Drawing
+pub mod Failing
+pub mod Runs
+pub mod Laws

@@ -1,0 +1,8 @@
+//! What a run keeps of itself. Each law is the contract of an empty function.
+
+ghost use Rattle.run_rule.specs.Laws.{PartitionsAreApart};
+
+/// The partitions of a legal and fresh history are apart.
+pub fn partitions_are_apart()
+    ensures { PartitionsAreApart }
+{}
