@@ -8,14 +8,14 @@ use Rattle.link_trait.specs.declared.prompts.Asked.TheVariants.{Given}
 use Rattle.link_trait.specs.Links.{stream_in}
 use Rattle.link_trait.specs.Prompts.{IsAnswerBy, answer_in}
 use Rattle.wire_head.specs.declared.reply.Reply.{Reply}
-use Rattle.auth_controller.specs.Challenges.{first_realm}
+use Rattle.auth_controller.specs.Challenges.{lone_realm}
 use Rattle.auth_controller.specs.FirstPath.{IsPlain, link_in, server_space}
-use Rattle.auth_controller.specs.Heard.{reply_in}
+use Rattle.trace_rule.specs.Heard.{reply_in}
 use Rattle.auth_cli.specs.Served.{HasChallenge, HasLast, IsFirstWith}
 
 -- the realm of a reply that is a challenge
 pub realm_shown : (method : Method) (links : List (List (List ℕ))) (challenge : Reply) (found : Option (List ℕ))
-    → Some challenge ≡ reply_in method (link_in (Some (stream_in links)) 1) → challenge.code ≡ 401 → found ≡ first_realm challenge.fields
+    → Some challenge ≡ reply_in method (link_in (Some (stream_in links)) 1) → challenge.code ≡ 401 → found ≡ lone_realm challenge.fields
     → IfSome found (λ realm. HasChallenge method links realm)
 realm_shown method links challenge None shown code is = tt
 realm_shown method links challenge (Some realm) shown code is =

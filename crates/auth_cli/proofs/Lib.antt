@@ -1,4 +1,5 @@
 pub mod Growing
 pub mod Complete
-pub mod Served
+pub mod Made
 pub mod FirstLemmas
+pub mod Served

@@ -5,10 +5,10 @@ ghost use Rattle.std.specs.Prelude.{◌≡◌, true, IsTrue, is_some, IfOk, IfSo
 ghost use Rattle.link_trait.specs.Links.{stream_in};
 ghost use Rattle.link_trait.specs.Prompts.{answer_in};
 ghost use Rattle.auth_controller.specs.FirstPath.{IsPlain, lone_roster, nth_link};
-ghost use Rattle.auth_controller.specs.Heard.{ended, reply_in};
+ghost use Rattle.trace_rule.specs.Heard.{ended, reply_in};
 ghost use Rattle.auth_cli.specs.Served.{HasChallenge, HasLast, IsFirstWith};
 
-use auth_controller::{first_realm, reply_in, server_space};
+use auth_controller::{lone_realm, reply_in, server_space};
 use auth_runs::Reply;
 use auth_text::{Bytes, NoMemory};
 use link_trait::{Answers, Asked, LinkName, Links, Prompter, ScriptPrompter, stream_in};
@@ -59,7 +59,7 @@ fn recorded_realm(alloc: Global, method: Method, links: &Links) -> Result<Option
             if reply.code != 401 {
                 return Ok(None);
             }
-            let realm = first_realm(alloc, reply.fields.as_slice())?;
+            let realm = lone_realm(alloc, reply.fields.as_slice())?;
             Ok(realm)
         }
         None => Ok(None),

@@ -8,7 +8,7 @@ ghost use Rattle.link_trait.specs.Prompts.{answer_in};
 ghost use Rattle.auth_controller.specs.FirstPath.{IsChallenge, IsLast, link_in, lone_roster, server_space};
 ghost use Rattle.wire_head.specs.declared.reply.Reply.{Reply};
 ghost use Rattle.auth_cli.specs.Served.{IsFirstWith, first_run};
-ghost use Rattle.auth_cli.specs.Headline.{IsRunOf, IsTextFor};
+ghost use Rattle.auth_cli.specs.Headline.{IsLoneRunOf, IsTextOf};
 
 use crate::first::{is_first, lone_request};
 use crate::words::Command;
@@ -26,7 +26,7 @@ use std::alloc::Global;
 /// The run of a session without requests.
 fn empty_run(alloc: Global, session: Session, seed: [u8; 32]) -> Result<Run, NoMemory>
     requires { session.roster.requests ≡ [] }
-    ensures { IfOk result (λ run. IsRunOf session 1 seed run) }
+    ensures { IfOk result (λ run. IsLoneRunOf session seed run) }
 {
     let (roster, names, journal) = PlainBook::new(alloc, &session.roster)?.into_parts();
     Ok(Run::new(seed, roster, names, journal, Traces::new(alloc)))
@@ -76,7 +76,7 @@ fn first_run(
 
 // A session with requests that isn't of the first path is refused before, by its text.
 fn run_with_requests(alloc: Global, session: Session, seed: [u8; 32]) -> Result<Run, NoMemory>
-    ensures { IfOk result (λ run. IsRunOf session 1 seed run) }
+    ensures { IfOk result (λ run. IsLoneRunOf session seed run) }
 {
     let roster = session.roster;
     let links = session.links;
@@ -93,7 +93,7 @@ fn run_with_requests(alloc: Global, session: Session, seed: [u8; 32]) -> Result<
 }
 
 fn run_for(alloc: Global, session: Session, seed: [u8; 32]) -> Result<Run, NoMemory>
-    ensures { IfOk result (λ run. IsRunOf session 1 seed run) }
+    ensures { IfOk result (λ run. IsLoneRunOf session seed run) }
 {
     if session.roster.requests.len() == 0 {
         empty_run(alloc, session, seed)
@@ -103,7 +103,7 @@ fn run_for(alloc: Global, session: Session, seed: [u8; 32]) -> Result<Run, NoMem
 }
 
 fn report(alloc: Global, session: Session, seed: [u8; 32]) -> Result<Bytes, NoMemory>
-    ensures { IfOk result (λ text. IsTextFor Command.Alone seed session text) }
+    ensures { IfOk result (λ text. IsTextOf Command.Alone seed session text) }
 {
     let run = run_for(alloc, session, seed)?;
     let text = text_of(alloc, &run)?;
@@ -117,7 +117,7 @@ pub(crate) fn text_for(
     session: Session,
     seed: [u8; 32],
 ) -> Result<Bytes, NoMemory>
-    ensures { IfOk result (λ text. IsTextFor command seed session text) }
+    ensures { IfOk result (λ text. IsTextOf command seed session text) }
 {
     match command {
         Command::Check => counts_of(alloc, &session),

@@ -2,3 +2,4 @@ pub mod LinkLemmas
 pub mod PromptLemmas
 pub mod ReplyLemmas
 pub mod EventLemmas
+pub mod FirstTrace

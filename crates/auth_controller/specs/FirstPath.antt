@@ -1,5 +1,5 @@
 -- What happens to one request that meets one Basic challenge, whose prompt is answered and accepted.
-use Rattle.std.specs.Prelude.{ℕ, ◌≡◌, true, false, List, [], ◌∷◌, ◌++◌, None, Some, option_and_then}
+use Rattle.std.specs.Prelude.{ℕ, ◌≡◌, ◌==◌, Bool, true, false, List, [], ◌∷◌, ◌++◌, None, Some, option_and_then}
 use Rattle.auth_text.specs.Login.{Login}
 use Rattle.spaces.specs.declared.roster.Method.{Method}
 use Rattle.spaces.specs.declared.roster.Request.{Request}
@@ -27,10 +27,10 @@ use Rattle.link_trait.specs.declared.dialer.Dial.{Dial}
 use Rattle.link_trait.specs.declared.dialer.Traffic.{Traffic}
 use Rattle.link_trait.specs.declared.prompts.Ask.{Ask}
 use Rattle.auth_controller.specs.Links.{Written, HasWritten, stream_of}
-use Rattle.auth_controller.specs.Challenges.{first_realm}
+use Rattle.auth_controller.specs.Challenges.{lone_realm}
 use Rattle.link_trait.specs.Links.{Stream}
-use Rattle.auth_controller.specs.Heard.{reply_in, ended as ended_stream}
-use Rattle.auth_controller.specs.Traces.{credentials, is_challenge}
+use Rattle.trace_rule.specs.Heard.{reply_in, ended as ended_stream}
+use Rattle.trace_rule.specs.Heads.{credentials}
 
 -- it goes to its server, and its URL has no identity
 pub record IsPlain (request : Request) : Type 0 where
@@ -114,11 +114,15 @@ answer_of answers space ordinal = option_and_then (λ answer. answer space ordin
 abbrev pub link_in : Option (LinkName → List ℕ) → ℕ → Stream
 link_in streams n = ended_stream (stream_of streams (nth_link n))
 
--- the stream shows a reply that is a challenge, which reads as that realm
+-- the reply challenges the server's credentials
+abbrev pub is_challenge : Reply → Bool
+is_challenge reply = reply.code == 401
+
+-- the stream shows a reply that is a challenge, which has one challenge, a Basic one of that realm
 pub record IsChallenge (method : Method) (stream : Stream) (challenge : Reply) (realm : List ℕ) : Type 0 where
   pub shown : reply_in method stream ≡ Some challenge
   pub challenges : is_challenge challenge ≡ true
-  pub reads : first_realm challenge.fields ≡ Some realm
+  pub reads : lone_realm challenge.fields ≡ Some realm
 
 -- the stream shows a reply that is no challenge
 pub record IsLast (method : Method) (stream : Stream) (last : Reply) : Type 0 where

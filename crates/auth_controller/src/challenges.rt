@@ -1,7 +1,9 @@
-//! The challenge that a reply's fields give: so far the first Basic one.
+//! The challenge of a reply of the first path: it has one, and this is a Basic one. All of it can be
+//! taken out once every challenge is answered.
 
 ghost use Rattle.std.specs.Prelude.{◌≡◌, codes, bytes_eq, IfOk};
-ghost use Rattle.auth_controller.specs.Challenges.{basic_realm, first_basic, first_realm, realm_in, realm_of};
+ghost use Rattle.trace_rule.specs.Challenges.{challenges_in, realm_of};
+ghost use Rattle.auth_controller.specs.Challenges.{basic_realm, lone_basic, lone_realm};
 
 use auth_text::{Bytes, NoMemory};
 use challenge_tokens::{Body, Challenge, read_field};
@@ -34,35 +36,30 @@ fn basic_realm(alloc: Global, challenge: &Challenge) -> Result<Option<Bytes>, No
     Ok(realm)
 }
 
-fn first_basic(alloc: Global, challenges: &[Challenge]) -> Result<Option<Bytes>, NoMemory>
-    ensures { IfOk result (λ realm. realm ≡ first_basic challenges.now) }
+fn lone_basic(alloc: Global, challenges: &[Challenge]) -> Result<Option<Bytes>, NoMemory>
+    ensures { IfOk result (λ realm. realm ≡ lone_basic challenges.now) }
 {
-    for challenge in challenges {
-        if let Some(realm) = basic_realm(alloc, challenge)? {
-            return Ok(Some(realm));
-        }
+    match challenges {
+        [challenge] => basic_realm(alloc, challenge),
+        _ => Ok(None),
     }
-    Ok(None)
 }
 
-/// The realm of the first supported challenge of a field, where there is one.
-#[tactic(auto, unfolding(crate::specs::Challenges::realm_in))]
+#[tactic(auto, unfolding(trace_rule::specs::Challenges::challenges_in))]
 fn realm_in(alloc: Global, value: &[u8]) -> Result<Option<Bytes>, NoMemory>
-    ensures { IfOk result (λ realm. realm ≡ realm_in value.now) }
+    ensures { IfOk result (λ realm. realm ≡ lone_basic (challenges_in value.now)) }
 {
     let read = read_field(alloc, value)?;
-    let realm = first_basic(alloc, read.challenges.as_slice())?;
+    let realm = lone_basic(alloc, read.challenges.as_slice())?;
     Ok(realm)
 }
 
-/// The realm of the first supported challenge of a reply's fields, where there is one.
-pub fn first_realm(alloc: Global, fields: &[Bytes]) -> Result<Option<Bytes>, NoMemory>
-    ensures { IfOk result (λ realm. realm ≡ first_realm fields.now) }
+/// The realm of a reply's only challenge, where it is a Basic one that can be answered.
+pub fn lone_realm(alloc: Global, fields: &[Bytes]) -> Result<Option<Bytes>, NoMemory>
+    ensures { IfOk result (λ realm. realm ≡ lone_realm fields.now) }
 {
-    for field in fields {
-        if let Some(realm) = realm_in(alloc, field.as_slice())? {
-            return Ok(Some(realm));
-        }
+    match fields {
+        [field] => realm_in(alloc, field.as_slice()),
+        _ => Ok(None),
     }
-    Ok(None)
 }

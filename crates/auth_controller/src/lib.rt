@@ -10,7 +10,7 @@ mod pieces;
 mod replies;
 mod serve;
 
-pub use challenges::first_realm;
+pub use challenges::lone_realm;
 pub use gear::Gear;
 pub use pieces::{add_front, zeros};
 pub use replies::reply_in;

@@ -2,10 +2,10 @@
 
 ghost use Rattle.std.specs.Prelude.{◌≡◌, IsTrue, is_some, IfOk, Some};
 ghost use Rattle.spaces.specs.declared.roster.Method.{Method};
-ghost use Rattle.auth_controller.specs.Challenges.{first_realm};
-ghost use Rattle.auth_controller.specs.Heard.{ended, reply_in};
+ghost use Rattle.auth_controller.specs.Challenges.{lone_realm};
+ghost use Rattle.trace_rule.specs.Heard.{ended, reply_in};
 
-use crate::challenges::first_realm;
+use crate::challenges::lone_realm;
 use auth_runs::Reply;
 use auth_text::{Bytes, NoMemory};
 use spaces::Method;
@@ -14,7 +14,7 @@ use wire_head::{At, ReplyReader};
 
 /// The reply to a request of this method that the whole of what a peer sent shows; none where it shows
 /// a fault.
-#[tactic(auto, unfolding(crate::specs::Heard::reply_in))]
+#[tactic(auto, unfolding(trace_rule::specs::Heard::reply_in))]
 pub fn reply_in(alloc: Global, method: Method, stream: &[u8]) -> Result<Option<Reply>, NoMemory>
     ensures { IfOk result (λ reply. reply ≡ reply_in method (ended stream.now)) }
 {
@@ -46,12 +46,12 @@ pub(crate) fn expected_reply(
     }
 }
 
-/// The realm of a reply's first supported challenge, which is known to have one.
+/// The realm of a reply's only challenge, which is known to be a Basic one.
 pub(crate) fn realm_of(alloc: Global, reply: &Reply) -> Result<Bytes, NoMemory>
-    requires { IsTrue (is_some (first_realm reply.now.fields)) }
-    ensures { IfOk result (λ realm. first_realm reply.now.fields ≡ Some realm) }
+    requires { IsTrue (is_some (lone_realm reply.now.fields)) }
+    ensures { IfOk result (λ realm. lone_realm reply.now.fields ≡ Some realm) }
 {
-    let realm = first_realm(alloc, reply.fields.as_slice())?;
+    let realm = lone_realm(alloc, reply.fields.as_slice())?;
     match realm {
         Some(realm) => Ok(realm),
         None => unreachable!(),

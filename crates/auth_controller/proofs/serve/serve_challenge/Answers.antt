@@ -1,7 +1,7 @@
 use Rattle.std.proofs.Common.{ap, ◌∙◌, subst}
 use Rattle.auth_runs.specs.Runs.{is_whole}
 use Rattle.auth_controller.specs.FirstPath.{link_in, server_space, answer_of, coded_events, ended, both_written}
-use Rattle.auth_controller.specs.Heard.{reply_in}
+use Rattle.trace_rule.specs.Heard.{reply_in}
 use Rattle.auth_controller.specs.Links.{HasWritten}
 use Rattle.auth_controller.proofs.EventLemmas.{joined}
 use Rattle.auth_controller.proofs.LinkLemmas.{wrote-more}
