@@ -5,7 +5,7 @@ use Rattle.std.specs.Prelude.{Result, Ok, Err, None}
 use Rattle.wire_head.specs.Replies.{reply}
 use Rattle.wire_head.specs.FinalHeads.{IsShown}
 use Rattle.wire_head.proofs.FinalHeadLemmas.{shown_values_fit}
-use Rattle.wire_head.proofs.FinalCodes.{shown_is_final}
+use Rattle.wire_head.proofs.FinalCodes.{shown_final}
 use Rattle.wire_head.specs.declared.reply.WireFault.{WireFault}
 use Rattle.spaces.specs.declared.roster.Method.{Method}
 use Rattle.link_trait.specs.Links.{Stream}
@@ -74,7 +74,7 @@ unfolding reply_in
 stream_can_be method stream r is =
     let whole = shown_whole (reply method stream.bytes stream.ended) r is in
     let shown : IsShown stream.bytes r = (method, stream.ended, whole.0, whole.1) in
-    rw (shown_is_final stream.bytes r shown) (shown_values_fit stream.bytes r shown)
+    rw (shown_final stream.bytes r shown) (shown_values_fit stream.bytes r shown)
 
 -- the names of the first path: one space and one text
 named_run : (request : Request) (realm : List ℕ) (login : Login)
