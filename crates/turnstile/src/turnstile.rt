@@ -1,5 +1,6 @@
 //! The turnstile: `enter` waits for a turn and takes the value out, `leave` puts it back and ends the turn, `close` gives it up.
 //! A turn is one ticket. The value is put back before the next ticket is served, so no two turns have it at once.
+//! A gate stands before the tickets: who holds it waits for its ticket to be served, and all others sleep at the gate.
 ghost use Rattle.std.specs.Prelude.{◌≡◌, ℕ, ◌+◌, ◌<◌, ◌++◌, ◌∷◌, [], All, length, Some, None, vec_len, IfOk, IfErr};
 ghost use mathlib.Core.List.{IsPrefix};
 ghost use Rattle.turnstile.specs.Totals.{Each};
@@ -17,12 +18,15 @@ use atomic_table::{Seat, Table};
 use std::alloc::Global;
 use std::marker::{Brand, Model};
 use std::snapshot::Snapshot;
-use std::sync::Wait;
+use std::sync::{Mutex, Wait};
 
 /// A value that one thread at a time may have, in turns. Threads share it by reference.
 pub struct Turnstile<S: Told> {
     history: Table<(), Past<S::Item>, (), HistoryRule<S>, Global>,
     turns: Table<Option<Deposit<S>>, Turn<S::Fixed>, Key<S>, TurnRule<S>, Global>,
+    // Held from before a ticket is drawn until the turn is had, so that one thread at most loads the word
+    // of the ticket that is served. No contract rests on it.
+    gate: Mutex<()>,
 }
 
 impl<S: Told> Model for Turnstile<S> {
@@ -69,7 +73,12 @@ impl<S: Told> Turnstile<S> {
             Err(refused) => return Err(refused),
         };
         let list = deal(&turns, seat, pasts, list);
-        Ok((Turnstile { history, turns }, Passes { list }))
+        let turnstile = Turnstile {
+            history,
+            turns,
+            gate: Mutex::new(()),
+        };
+        Ok((turnstile, Passes { list }))
     }
 
     /// Waits for a turn, and takes the value out. Its list begins with all that the pass had seen, and the pass's own items are
@@ -84,7 +93,9 @@ impl<S: Told> Turnstile<S> {
         ensures number { 0 < pass.number }
     {
         let Pass { mut past, turn } = pass;
+        let gate = self.gate.lock(rt);
         let (turn, deposit) = self.take_turn(rt, turn);
+        drop(gate);
         let Deposit { of: _, state, home } = deposit;
         self.history.shared.join_seat::<HomeIn>(&mut past, home);
         self.history.shared.load::<Looks<S>>(&mut past, 0);
@@ -119,7 +130,11 @@ impl<S: Told> Turnstile<S> {
             unreachable!()
         };
         let (mut past, turn) = self.gather(first, passes.list);
-        let Turnstile { history, turns } = self;
+        let Turnstile {
+            history,
+            turns,
+            gate: _,
+        } = self;
         let Deposit { of: _, state, home } = reopened(turns, turn);
         history.shared.join_seat::<HomeIn>(&mut past, home);
         history.shared.load::<Looks<S>>(&mut past, 0);
