@@ -10,3 +10,5 @@ pub mod OwnHeads
 pub mod Outcomes
 pub mod Settling
 pub mod Hearing
+pub mod Givings
+pub mod Suiting

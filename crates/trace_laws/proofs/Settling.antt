@@ -178,7 +178,7 @@ cut_allowed s roster names entries caller r past run may same one_caller few =
 
 -- A PROMPT THAT IS OPEN
 
-event_settles : (p : ℕ) (past : List Event) → list_any (settles p) past ≡ list_any (λ x. call_settles x.call p) (calls past)
+pub event_settles : (p : ℕ) (past : List Event) → list_any (settles p) past ≡ list_any (λ x. call_settles x.call p) (calls past)
 event_settles p [] = refl
 event_settles p (Called call reply ∷ past) = ap (λ b. b || list_any (settles p) past) (same call) ∙ ap (λ b. call_settles call p || b) (event_settles p past)
   where

@@ -3,3 +3,4 @@ pub mod Bindings
 pub mod Homes
 pub mod Endings
 pub mod Sources
+pub mod Answering

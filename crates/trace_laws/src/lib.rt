@@ -2,12 +2,14 @@
 //! and whose identities its heads carry.
 #![tactic(auto)]
 
+mod answering;
 mod bindings;
 mod endings;
 mod homes;
 mod lengths;
 mod sources;
 
+pub use answering::{answers_suit, texts_suit};
 pub use bindings::{pasts_keep_to_their_link, tokens_keep_to_their_link};
 pub use endings::{cuts_are_allowed, losses_are_allowed, prompts_are_settled, traces_are_whole};
 pub use homes::heads_carry_their_own;
