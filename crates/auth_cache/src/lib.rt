@@ -4,7 +4,5 @@
 
 mod cache;
 pub mod laws;
-#[cfg(test)]
-mod tests;
 
 pub use cache::{AuthCache, Held, Removal};

@@ -5,7 +5,5 @@
 
 mod index;
 pub mod laws;
-#[cfg(test)]
-mod tests;
 
 pub use index::PathIndex;

@@ -1,7 +1,6 @@
 //! The directory of one request, as other requests of its site find it.
 
-use crate::PathIndex;
-use auth_text::NoMemory;
+use path_lookup::PathIndex;
 use spaces::{Method, Origins, Partition, Request, Requests, Roster, Target, place_of};
 use std::alloc::Global;
 use std::process::Abort;

@@ -1,6 +1,6 @@
 //! A cache of two entries, as a book tells it what happens.
 
-use crate::{AuthCache, Held, Removal};
+use auth_cache::{AuthCache, Held, Removal};
 use auth_events::Gift;
 use std::process::Abort;
 use std::test::Fail;
