@@ -11,4 +11,5 @@ pub mod Outcomes
 pub mod Settling
 pub mod Hearing
 pub mod Givings
+pub mod Schemes
 pub mod Suiting
