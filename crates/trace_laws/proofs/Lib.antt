@@ -13,3 +13,5 @@ pub mod Hearing
 pub mod Givings
 pub mod Schemes
 pub mod Suiting
+pub mod Readings
+pub mod Offers

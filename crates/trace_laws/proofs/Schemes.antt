@@ -1,65 +1,29 @@
 -- What the replies of a book say of schemes and prompts.
-use Rattle.std.proofs.Common.{◌≡◌, inl, inr, ℕ, ◌+◌, ◌≤◌, Bool, true, false, not, ◌&&◌, ◌||◌, ◌==◌, cond, IsTrue, List, [], ◌∷◌, map, drop, Option, Some, None, is_some, option_map, unwrap_or, refl, sym, ap, ◌∙◌, subst, arith, if◌then◌else◌}
+use Rattle.std.proofs.Common.{◌≡◌, ℕ, ◌+◌, Bool, true, false, ◌&&◌, ◌||◌, ◌==◌, IsTrue, List, [], ◌∷◌, Option, Some, None, option_map, unwrap_or, refl, sym, ap, ◌∙◌, subst, arith}
 use Rattle.std.specs.List.{list_any}
-use Rattle.std.proofs.lemmas.Bool.{false≢true, eq-eqb}
+use Rattle.std.proofs.lemmas.Bool.{false≢true}
 use Rattle.std.proofs.lemmas.Bool.Decides.{nat_tests}
-use Rattle.spaces.specs.declared.roster.Request.{Request}
-use Rattle.spaces.specs.declared.roster.Roster.{Roster}
 use Rattle.spaces.specs.declared.site.Target.{Target}
 use Rattle.spaces.specs.declared.site.Target.TheVariants.{Server, Proxy, Socks}
 use Rattle.spaces.specs.declared.space.Scheme.{Scheme}
 use Rattle.spaces.specs.declared.space.Scheme.TheVariants.{Basic, Digest, Negotiate, Password}
 use Rattle.spaces.specs.ProtectionSpaces.{ProtectionSpace}
-use Rattle.spaces.specs.Sites.{numbered, same_scheme, same_target}
+use Rattle.spaces.specs.Sites.{same_scheme, same_target}
 use Rattle.auth_events.specs.declared.journal.Gift.{Gift}
 use Rattle.auth_events.specs.declared.journal.Loss.{Loss}
 use Rattle.auth_events.specs.declared.journal.Loss.TheVariants.{Fault, Memory}
 use Rattle.auth_events.specs.declared.journal.Call.{Call}
-use Rattle.auth_events.specs.declared.journal.Call.TheVariants.{Begin, Preempt, Select, Reject, Renew, Answer, Lose, Take}
+use Rattle.auth_events.specs.declared.journal.Call.TheVariants.{Answer, Take}
 use Rattle.auth_events.specs.declared.journal.BookReply.{BookReply}
-use Rattle.auth_events.specs.declared.journal.BookReply.TheVariants.{Ready, Url, Cached, Default, Follow, Lead, Removed, Kept, Given, Cancelled, Gave}
+use Rattle.auth_events.specs.declared.journal.BookReply.TheVariants.{Default, Given}
 use Rattle.auth_events.specs.declared.journal.Entry.{Entry}
-use Rattle.auth_events.specs.declared.names.TermsName.{TermsName}
-use Rattle.auth_events.specs.Identities.{giving}
-use Rattle.auth_events.specs.Pages.{fits}
-use Rattle.auth_events.specs.Past.{current, current_ordinal, evicted, is_removed, leads, open_lead, prompt_followed, selects, settled, settles as call_settles}
-use Rattle.auth_events.specs.Tables.{Tables}
-use Rattle.auth_events.specs.Book.{IsStep, first_choice, fits_space, gift_told, has_terms, is_allowed_origin, is_basic, is_default, is_digest, is_negotiate, is_rival, is_site_of, is_that_gift, next_gift, own, scheme_is as named_is, select_answer, space_named, space_of_prompt, space_selected, takes, was_default_told, was_told}
-use Rattle.auth_events.proofs.Given.{given_identity}
-use Rattle.auth_events.proofs.NamedThings.{one_of}
-use Rattle.auth_events.proofs.Numbers.{and_left, and_right, some_of_test}
+use Rattle.auth_events.specs.Past.{prompt_followed, selects}
+use Rattle.auth_events.specs.Book.{first_choice, is_basic, is_default, is_digest, is_negotiate, select_answer, takes}
+use Rattle.auth_events.proofs.Numbers.{and_right}
 use Rattle.auth_events.proofs.Same.{number_refl, number_same}
-use Rattle.history_laws.specs.Laws.{IsAsked, is_site_named}
-use Rattle.history_laws.proofs.Homes.{selected_site}
-use Rattle.history_laws.proofs.Leading.{new_number}
-use Rattle.history_laws.proofs.Telling.{all_told}
-use Rattle.link_trait.specs.declared.prompts.AskSeen.{AskSeen}
-use Rattle.link_trait.specs.declared.prompts.AskSeen.TheVariants.{Given as AskGiven}
-use Rattle.auth_runs.specs.declared.event.Outcome.{Outcome}
-use Rattle.auth_runs.specs.declared.event.Event.{Event}
-use Rattle.auth_runs.specs.declared.event.Event.TheVariants.{AskedFor, Called}
-use Rattle.trace_rule.specs.Settings.{Setting, is_by_path, knows_gift, knows_terms, scheme_is, target_is}
-use Rattle.trace_rule.specs.Holding.{terms_followed}
-use Rattle.trace_rule.specs.Moves.{Move, Want, move}
-use Rattle.trace_rule.specs.Moves.Move.{Closes, Goes}
-use Rattle.trace_rule.specs.Moves.Want.{Answers, Calls}
-use Rattle.trace_rule.specs.Closings.{carried_out, closings, closings_made, next_closing, want}
-use Rattle.trace_rule.specs.Entries.{Made, calls, made_in}
-use Rattle.trace_rule.specs.Serving.{IsServing, setting_in}
-use Rattle.trace_rule.specs.Traces.{IsPast, agrees, answer_agrees, choice_agrees, loss_agrees, may_hold, ready_agrees, same_loss, settles, space_prompted, suits, take_agrees}
-use Rattle.trace_rule.proofs.Allowed.{any_map, join, not_that}
-use Rattle.trace_rule.proofs.EndCalls.{IsFrom, wanted_from}
-use Rattle.trace_rule.proofs.Holdings.{defaults, tells}
-use Rattle.trace_rule.proofs.Prompts.{IsLastLed, last_followed, last_led}
-use Rattle.trace_rule.proofs.Reasons.{Reason, closing_never, reason}
-use Rattle.trace_rule.proofs.Reasons.Reason.{begins, cancels, is_rejected, is_renewed, loses, preempts, preempts_server, selects as chooses, takes as takes_it}
-use Rattle.trace_rule.proofs.Stages.{AllDone, Stage, any_within, asks_from, fits_of, is_waiting, stage}
-use Rattle.trace_rule.proofs.Stages.Stage.{is_asked, is_following, is_led, quiet}
-use Rattle.trace_rule.proofs.Waiting.{given_behind}
-use Rattle.trace_laws.specs.Answering.{made}
-use Rattle.trace_laws.proofs.AtHome.{was_told_site}
-use Rattle.trace_laws.proofs.Givings.{answered_fits, current_low, given_later, held_fits, may_of, own_fits, ready_in, renewed_fits, selected_fits, told_given, was_given}
-use Rattle.trace_laws.proofs.Settling.{event_settles}
+use Rattle.trace_rule.specs.Entries.{Made}
+use Rattle.trace_rule.specs.Traces.{same_loss}
+use Rattle.trace_rule.proofs.Stages.{AllDone}
 
 -- SCHEMES
 

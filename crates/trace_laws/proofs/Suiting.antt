@@ -1,19 +1,16 @@
 -- The reply of a legal book suits the call that a request wanted.
-use Rattle.std.proofs.Common.{◌≡◌, inl, inr, ℕ, ◌+◌, ◌≤◌, Bool, true, false, not, ◌&&◌, ◌||◌, ◌==◌, cond, IsTrue, List, [], ◌∷◌, map, drop, Option, Some, None, is_some, option_map, unwrap_or, refl, sym, ap, ◌∙◌, subst, arith, if◌then◌else◌}
+use Rattle.std.proofs.Common.{◌≡◌, inl, inr, ℕ, ◌+◌, ◌≤◌, Bool, true, false, not, ◌&&◌, ◌==◌, cond, IsTrue, List, [], ◌∷◌, map, drop, Option, Some, None, is_some, option_map, unwrap_or, refl, sym, ap, ◌∙◌, subst, arith, if◌then◌else◌}
 use Rattle.std.specs.List.{list_any}
 use Rattle.std.proofs.lemmas.Bool.{false≢true, eq-eqb}
 use Rattle.std.proofs.lemmas.Bool.Decides.{nat_tests}
 use Rattle.spaces.specs.declared.roster.Request.{Request}
 use Rattle.spaces.specs.declared.roster.Roster.{Roster}
 use Rattle.spaces.specs.declared.site.Target.{Target}
-use Rattle.spaces.specs.declared.site.Target.TheVariants.{Server, Proxy, Socks}
-use Rattle.spaces.specs.declared.space.Scheme.{Scheme}
-use Rattle.spaces.specs.declared.space.Scheme.TheVariants.{Basic, Digest, Negotiate, Password}
+use Rattle.spaces.specs.declared.site.Target.TheVariants.{Server}
+use Rattle.spaces.specs.declared.space.Scheme.TheVariants.{Digest}
 use Rattle.spaces.specs.ProtectionSpaces.{ProtectionSpace}
-use Rattle.spaces.specs.Sites.{numbered, same_scheme, same_target}
+use Rattle.spaces.specs.Sites.{numbered, same_target}
 use Rattle.auth_events.specs.declared.journal.Gift.{Gift}
-use Rattle.auth_events.specs.declared.journal.Loss.{Loss}
-use Rattle.auth_events.specs.declared.journal.Loss.TheVariants.{Fault, Memory}
 use Rattle.auth_events.specs.declared.journal.Call.{Call}
 use Rattle.auth_events.specs.declared.journal.Call.TheVariants.{Begin, Preempt, Select, Reject, Renew, Answer, Lose, Take}
 use Rattle.auth_events.specs.declared.journal.BookReply.{BookReply}
@@ -24,7 +21,7 @@ use Rattle.auth_events.specs.Identities.{giving}
 use Rattle.auth_events.specs.Pages.{fits}
 use Rattle.auth_events.specs.Past.{current, current_ordinal, evicted, is_removed, leads, open_lead, prompt_followed, selects, settled, settles as call_settles}
 use Rattle.auth_events.specs.Tables.{Tables}
-use Rattle.auth_events.specs.Book.{IsStep, first_choice, fits_space, gift_told, has_terms, is_allowed_origin, is_basic, is_default, is_digest, is_negotiate, is_rival, is_site_of, is_that_gift, next_gift, own, scheme_is as named_is, select_answer, space_named, space_of_prompt, space_selected, takes, was_default_told, was_told}
+use Rattle.auth_events.specs.Book.{IsStep, fits_space, gift_told, has_terms, is_allowed_origin, is_digest, is_negotiate, is_rival, is_site_of, is_that_gift, next_gift, own, scheme_is as named_is, space_named, space_of_prompt, space_selected, takes, was_default_told, was_told}
 use Rattle.auth_events.proofs.Given.{given_identity}
 use Rattle.auth_events.proofs.NamedThings.{one_of}
 use Rattle.auth_events.proofs.Numbers.{and_left, and_right, some_of_test}
@@ -46,7 +43,7 @@ use Rattle.trace_rule.specs.Moves.Want.{Answers, Calls}
 use Rattle.trace_rule.specs.Closings.{carried_out, closings, closings_made, next_closing, want}
 use Rattle.trace_rule.specs.Entries.{Made, calls, made_in}
 use Rattle.trace_rule.specs.Serving.{IsServing, setting_in}
-use Rattle.trace_rule.specs.Traces.{IsPast, agrees, answer_agrees, choice_agrees, loss_agrees, may_hold, ready_agrees, same_loss, settles, space_prompted, suits, take_agrees}
+use Rattle.trace_rule.specs.Traces.{IsPast, agrees, answer_agrees, choice_agrees, loss_agrees, may_hold, ready_agrees, settles, space_prompted, suits, take_agrees}
 use Rattle.trace_rule.proofs.Allowed.{any_map, join, not_that}
 use Rattle.trace_rule.proofs.EndCalls.{IsFrom, wanted_from}
 use Rattle.trace_rule.proofs.Holdings.{defaults, tells}

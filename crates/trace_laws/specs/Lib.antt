@@ -4,3 +4,4 @@ pub mod Homes
 pub mod Endings
 pub mod Sources
 pub mod Answering
+pub mod Naming

@@ -7,6 +7,7 @@ mod bindings;
 mod endings;
 mod homes;
 mod lengths;
+mod naming;
 mod sources;
 
 pub use answering::{answers_suit, texts_suit};
@@ -14,4 +15,7 @@ pub use bindings::{pasts_keep_to_their_link, tokens_keep_to_their_link};
 pub use endings::{cuts_are_allowed, losses_are_allowed, prompts_are_settled, traces_are_whole};
 pub use homes::heads_carry_their_own;
 pub use lengths::{events_are_few, pasts_leave_room};
+pub use naming::{
+    drawn_nonces_are_known, held_is_readable, offered_terms_are_at_home, renewed_terms_are_at_home,
+};
 pub use sources::traces_are_determined_by_streams;
