@@ -25,7 +25,8 @@ use Rattle.wire_head.specs.declared.reply.Reply.{Reply}
 use Rattle.auth_runs.specs.Runs.{Each}
 use Rattle.auth_runs.specs.declared.event.Event.{Event}
 use Rattle.trace_rule.specs.Settings.{Setting, or_else, scheme_is}
-use Rattle.trace_rule.specs.Challenges.{Offer, basic_offer, best, challenges, digest_offer, first_by, negotiate_challenge, negotiate_offer, offer, realm_of, space_at, supported, token_in}
+use Rattle.negotiate_handler.specs.Tokens.{token_in}
+use Rattle.trace_rule.specs.Challenges.{Offer, basic_offer, best, challenges, digest_offer, first_by, negotiate_challenge, negotiate_offer, offer, realm_of, space_at, supported}
 use Rattle.trace_rule.specs.Holding.{Decision, Held, deciding}
 use Rattle.trace_rule.specs.Holding.Decision.{Negotiating, Offering}
 use Rattle.trace_rule.specs.Serving.{IsServing, setting_in}
