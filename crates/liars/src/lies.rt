@@ -1,0 +1,60 @@
+//! Runs that lie, by what they lie about. Each is refused.
+
+ghost use Rattle.run_rule.specs.Runs.{IsLoneRun};
+ghost use Rattle.liars.specs.Session.{outside, seed, one_request, two_requests};
+ghost use Rattle.liars.specs.Lies.{nobody_asked, not_listened, another_identity, never_asked, asked_twice, another_password, no_identity, to_a_proxy, to_another_host, over_the_first_link, reply_of_another_link, broken_reply, dial_fault, read_fault, too_early, given_up, no_note, entry_twice, untraced_call, two_as_one, another_gift, another_partitions_gift, request_left_out, unused_text, space_twice, text_again, another_seed};
+
+/// What a prompter was asked, and what it answered.
+pub fn prompts()
+    ensures nobody_asked { ¬ (IsLoneRun one_request outside seed nobody_asked) }
+    ensures not_listened { ¬ (IsLoneRun one_request outside seed not_listened) }
+    ensures another_identity { ¬ (IsLoneRun one_request outside seed another_identity) }
+    ensures never_asked { ¬ (IsLoneRun one_request outside seed never_asked) }
+    ensures asked_twice { ¬ (IsLoneRun one_request outside seed asked_twice) }
+{}
+
+/// What goes out, and where.
+pub fn heads()
+    ensures another_password { ¬ (IsLoneRun one_request outside seed another_password) }
+    ensures no_identity { ¬ (IsLoneRun one_request outside seed no_identity) }
+    ensures to_a_proxy { ¬ (IsLoneRun one_request outside seed to_a_proxy) }
+    ensures to_another_host { ¬ (IsLoneRun one_request outside seed to_another_host) }
+    ensures over_the_first_link { ¬ (IsLoneRun one_request outside seed over_the_first_link) }
+{}
+
+/// What links show, and whether they fail.
+pub fn links()
+    ensures reply_of_another_link { ¬ (IsLoneRun one_request outside seed reply_of_another_link) }
+    ensures broken_reply { ¬ (IsLoneRun one_request outside seed broken_reply) }
+    ensures dial_fault { ¬ (IsLoneRun one_request outside seed dial_fault) }
+    ensures read_fault { ¬ (IsLoneRun one_request outside seed read_fault) }
+{}
+
+/// How a request ends.
+pub fn ends()
+    ensures too_early { ¬ (IsLoneRun one_request outside seed too_early) }
+    ensures given_up { ¬ (IsLoneRun one_request outside seed given_up) }
+    ensures no_note { ¬ (IsLoneRun one_request outside seed no_note) }
+{}
+
+/// What the book was asked, and what it replied.
+pub fn journals()
+    ensures entry_twice { ¬ (IsLoneRun one_request outside seed entry_twice) }
+    ensures untraced_call { ¬ (IsLoneRun one_request outside seed untraced_call) }
+    ensures two_as_one { ¬ (IsLoneRun two_requests outside seed two_as_one) }
+    ensures another_gift { ¬ (IsLoneRun one_request outside seed another_gift) }
+    ensures another_partitions_gift { ¬ (IsLoneRun two_requests outside seed another_partitions_gift) }
+    ensures request_left_out { ¬ (IsLoneRun two_requests outside seed request_left_out) }
+{}
+
+/// What numbers name.
+pub fn names()
+    ensures unused_text { ¬ (IsLoneRun one_request outside seed unused_text) }
+    ensures space_twice { ¬ (IsLoneRun one_request outside seed space_twice) }
+    ensures text_again { ¬ (IsLoneRun two_requests outside seed text_again) }
+{}
+
+/// What was handed in.
+pub fn handed_over()
+    ensures another_seed { ¬ (IsLoneRun one_request outside seed another_seed) }
+{}
