@@ -1,12 +1,10 @@
 -- A run: what a report tells.
-use Rattle.std.specs.Prelude.{ℕ, ◌≡◌, ◌≤◌, ◌+◌, ◌-◌, ◌%◌, ◌==◌, Bool, true, false, ◌&&◌, List, [], ◌∷◌, length, reverse, filter, filter_map, map, None, Some, slice_index_or, if◌then◌else◌}
+use Rattle.std.specs.Prelude.{ℕ, ◌≡◌, ◌≤◌, ◌+◌, ◌-◌, ◌%◌, ◌==◌, Bool, true, false, List, [], ◌∷◌, length, filter, filter_map, map, None, Some, slice_index_or, if◌then◌else◌}
 use Rattle.std.specs.List.{flat_map, range_with_len}
 use Rattle.std.specs.declared.option.Option.{Option}
 use Rattle.spaces.specs.declared.roster.Roster.{Roster}
 use Rattle.spaces.specs.declared.roster.Request.{Request}
-use Rattle.auth_events.specs.Tables.{Tables, is_rising, greatest}
-use Rattle.auth_events.specs.declared.journal.Call.{Call}
-use Rattle.auth_events.specs.declared.journal.Call.TheVariants.{Select, Reject, Renew, Answer}
+use Rattle.auth_events.specs.Tables.{Tables}
 use Rattle.auth_events.specs.declared.journal.Entry.{Entry}
 use Rattle.auth_events.specs.Fresh.{StepTold, DidCall, DidDraw, merge}
 use Rattle.auth_runs.specs.declared.event.Event.{Event}
@@ -76,43 +74,6 @@ made_by run caller = filter (λ entry. entry.caller == caller) run.journal
 -- each entry is one call of one trace, in its caller's order
 abbrev pub AreOnce : ℕ → Run → Type 0
 AreOnce callers run = (caller : ℕ) → made_by run caller ≡ calls_of callers run caller
-
--- NAMES ARE USED
-
--- the space that a call names
-abbrev pub space_in : Call → Option ℕ
-space_in (Select space terms) = Some space
-space_in (Reject space ordinal) = Some space
-space_in call = None
-
-abbrev pub unless_zero : ℕ → Option ℕ
-unless_zero n = if n == 0 then None else Some n
-
--- the terms that a call names
-abbrev pub terms_in : Call → Option ℕ
-terms_in (Select space terms) = unless_zero terms
-terms_in (Renew gift terms) = unless_zero terms
-terms_in (Answer prompt text terms) = unless_zero terms
-terms_in call = None
-
--- the text that a call names
-abbrev pub text_in : Call → Option ℕ
-text_in (Answer prompt text terms) = unless_zero text
-text_in call = None
-
--- numbers that occur in calls, the latest first
-abbrev pub numbers_in : (Call → Option ℕ) → List Entry → List ℕ
-numbers_in number journal = reverse (filter_map (λ entry. number entry.call) journal)
-
--- the numbers from 1 to the count all occur, and rise by first occurrence
-abbrev pub are_all_met : (Call → Option ℕ) → List Entry → ℕ → Bool
-are_all_met number journal count = is_rising (numbers_in number journal) && greatest (numbers_in number journal) == count
-
--- each named space, terms and text occurs in a call
-abbrev pub are_names_met : Tables → List Entry → Bool
-are_names_met names journal =
-    are_all_met space_in journal (length names.spaces) && are_all_met terms_in journal (length names.terms)
-    && are_all_met text_in journal (length names.texts)
 
 -- each has P
 abbrev pub Each : {A : Type 0} → (A → Type 0) → List A → Type 0
