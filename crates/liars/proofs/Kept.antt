@@ -21,7 +21,7 @@ use Rattle.liars.proofs.Refusing.{setting_in}
 
 -- NAMES
 
-named_one : AreNames one.names
+pub named_one : AreNames one.names
 named_one = AreNames-text (with_space no_names (space_in (codes "p"))) login (AreNames-space no_names (space_in (codes "p")) AreNames-none refl refl)
 
 -- TRACES
@@ -31,7 +31,7 @@ unfolding digits base64_on_literals challenges_in next_in
 one_is_trace =
     inl (((((((((((((((tt, (refl, refl)), (refl, refl)), refl), refl), (refl, refl)), (refl, refl)), refl), (refl, refl, refl, refl)), refl), refl), (refl, refl)), (refl, refl)), (refl, refl)), refl), refl)
 
-one_is_heard : IsHeard outside.streams first_request.method 1 (reverse (events 1))
+pub one_is_heard : IsHeard outside.streams first_request.method 1 (reverse (events 1))
 unfolding httparse_on_literals reply_in reply_len fault_in
 one_is_heard = ((((((((((((((tt, tt), tt), tt), tt), refl), tt), tt), tt), tt), tt), refl), tt), tt), tt)
 
@@ -81,7 +81,7 @@ named_two =
     AreNames-text (with_text (with_space (with_space no_names first) second) login) login (AreNames-text (with_space (with_space no_names first) second) login spaces)
 
 -- what holds of the first and the second holds of both
-each_of_two : (P : ℕ → Type 0) → P 1 → P 2 → (r : ℕ) → 1 ≤ r → r ≤ 2 → P r
+pub each_of_two : (P : ℕ → Type 0) → P 1 → P 2 → (r : ℕ) → 1 ≤ r → r ≤ 2 → P r
 each_of_two P first second zero low high = absurd (omega (arith, low))
 each_of_two P first second (suc zero) low high = first
 each_of_two P first second (suc (suc zero)) low high = second

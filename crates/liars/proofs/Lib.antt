@@ -1,3 +1,6 @@
 pub mod Refusing
 pub mod Kept
 pub mod Refused
+pub mod Drawing
+pub mod Sharing
+pub mod Proxying

@@ -1,3 +1,6 @@
 pub mod Session
 pub mod Honest
 pub mod Lies
+pub mod Drawn
+pub mod Shared
+pub mod Proxied

@@ -6,4 +6,4 @@ mod honest;
 mod lies;
 
 pub use honest::honest_runs;
-pub use lies::{ends, handed_over, heads, journals, links, names, prompts};
+pub use lies::{draws, ends, handed_over, heads, journals, links, names, prompts, waiters};

@@ -1,8 +1,11 @@
 //! Runs that lie, by what they lie about. Each is refused.
 
-ghost use Rattle.run_rule.specs.Runs.{IsLoneRun};
+ghost use Rattle.run_rule.specs.Runs.{IsRunBy, IsLoneRun};
 ghost use Rattle.liars.specs.Session.{outside, seed, one_request, two_requests};
 ghost use Rattle.liars.specs.Lies.{nobody_asked, not_listened, another_identity, never_asked, asked_twice, another_password, no_identity, to_a_proxy, to_another_host, over_the_first_link, reply_of_another_link, broken_reply, dial_fault, read_fault, too_early, given_up, no_note, entry_twice, untraced_call, two_as_one, another_gift, another_partitions_gift, request_left_out, unused_text, space_twice, text_again, another_seed};
+ghost use Rattle.liars.specs.Drawn.{drawn_roster, drawn_outside, drawn_twice, out_of_turn, passed_over, future_epoch, never_drawn, nonce_twice};
+ghost use Rattle.liars.specs.Shared.{shared_roster, cancelled_for_one, not_taken, asked_again};
+ghost use Rattle.liars.specs.Proxied.{proxied_roster, proxied_outside, proxys_to_the_server, servers_to_the_proxy};
 
 /// What a prompter was asked, and what it answered.
 pub fn prompts()
@@ -20,6 +23,8 @@ pub fn heads()
     ensures to_a_proxy { ¬ (IsLoneRun one_request outside seed to_a_proxy) }
     ensures to_another_host { ¬ (IsLoneRun one_request outside seed to_another_host) }
     ensures over_the_first_link { ¬ (IsLoneRun one_request outside seed over_the_first_link) }
+    ensures proxys_to_the_server { ¬ (IsLoneRun proxied_roster proxied_outside seed proxys_to_the_server) }
+    ensures servers_to_the_proxy { ¬ (IsLoneRun proxied_roster proxied_outside seed servers_to_the_proxy) }
 {}
 
 /// What links show, and whether they fail.
@@ -52,6 +57,23 @@ pub fn names()
     ensures unused_text { ¬ (IsLoneRun one_request outside seed unused_text) }
     ensures space_twice { ¬ (IsLoneRun one_request outside seed space_twice) }
     ensures text_again { ¬ (IsLoneRun two_requests outside seed text_again) }
+{}
+
+/// What those who wait for a prompt take, and what those get who come behind it.
+pub fn waiters()
+    ensures cancelled_for_one { ¬ (IsRunBy 2 shared_roster outside seed cancelled_for_one) }
+    ensures not_taken { ¬ (IsRunBy 2 shared_roster outside seed not_taken) }
+    ensures asked_again { ¬ (IsLoneRun shared_roster outside seed asked_again) }
+{}
+
+/// What was drawn of a nonce.
+pub fn draws()
+    ensures drawn_twice { ¬ (IsLoneRun drawn_roster drawn_outside seed drawn_twice) }
+    ensures out_of_turn { ¬ (IsLoneRun drawn_roster drawn_outside seed out_of_turn) }
+    ensures passed_over { ¬ (IsLoneRun drawn_roster drawn_outside seed passed_over) }
+    ensures future_epoch { ¬ (IsLoneRun drawn_roster drawn_outside seed future_epoch) }
+    ensures never_drawn { ¬ (IsLoneRun drawn_roster drawn_outside seed never_drawn) }
+    ensures nonce_twice { ¬ (IsLoneRun drawn_roster drawn_outside seed nonce_twice) }
 {}
 
 /// What was handed in.

@@ -5,4 +5,4 @@
 
 mod laws;
 
-pub use laws::partitions_are_apart;
+pub use laws::{partitions_are_apart, requests_end_well};
