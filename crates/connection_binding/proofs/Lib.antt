@@ -1,1 +1,2 @@
+pub mod NewLinks
 pub mod PieceLemmas

@@ -35,7 +35,8 @@ impl FreeLink {
         requires closed { has_link name (D.opened dialer.old) ≡ false }
         requires fresh { IsUndialed name (D.dials dialer.old) }
         ensures link { IsGiven result name }
-        ensures dials { D.dials dialer.new ≡ grown (D.dials dialer.old) (dialing (dialed_by result) name to.now) }
+        ensures dials { D.dials dialer.new
+            ≡ grown (D.dials dialer.old) (dialing (dialed_by result) name to.now) }
         ensures opened { D.opened dialer.new ≡ D.opened dialer.old ++ opening (dialed_by result) name }
         ensures traffic { D.traffic dialer.new ≡ D.traffic dialer.old }
         ensures streams { D.streams dialer.new ≡ D.streams dialer.old }
@@ -64,7 +65,8 @@ impl FreeLink {
     pub fn send<D: Dialer>(&mut self, dialer: &mut D, head: &[u8]) -> SendEnd
         requires { has_link self.old (D.opened dialer.old) ≡ true }
         ensures link { self.new ≡ self.old }
-        ensures traffic { Sends (D.traffic dialer.old) (D.traffic dialer.new) (wrote_by result) self.old head.now }
+        ensures traffic { Sends
+            (D.traffic dialer.old) (D.traffic dialer.new) (wrote_by result) self.old head.now }
         ensures dials { D.dials dialer.new ≡ D.dials dialer.old }
         ensures opened { D.opened dialer.new ≡ D.opened dialer.old }
         ensures streams { D.streams dialer.new ≡ D.streams dialer.old }
@@ -86,7 +88,8 @@ impl FreeLink {
     pub fn read<D: Dialer>(&mut self, alloc: Global, dialer: &mut D, method: Method) -> ReadEnd
         requires { has_link self.old (D.opened dialer.old) ≡ true }
         ensures link { self.new ≡ self.old }
-        ensures reply { IsReplyRead self.old method (D.streams dialer.old) (D.traffic dialer.old) (D.traffic dialer.new) result }
+        ensures reply { IsReplyRead self.old method
+            (D.streams dialer.old) (D.traffic dialer.old) (D.traffic dialer.new) result }
         ensures dials { D.dials dialer.new ≡ D.dials dialer.old }
         ensures opened { D.opened dialer.new ≡ D.opened dialer.old }
         ensures streams { D.streams dialer.new ≡ D.streams dialer.old }

@@ -4,7 +4,9 @@
 
 mod ends;
 mod free;
+mod laws;
 mod reading;
 
 pub use ends::{DialEnd, ReadEnd, SendEnd};
 pub use free::FreeLink;
+pub use laws::new_links;

@@ -44,8 +44,10 @@ fn zeros(alloc: Global, len: usize) -> Result<Vec<u8>, AllocError>
 
 /// What the reader answers to one more piece.
 fn fed(reader: &mut ReplyReader, piece: &[u8]) -> Piece
-    ensures answer { (method : Method) (text : List ℕ) → IsFed reader.old method text → IsFedAnswer (reply method (text ++ piece.now) false) result }
-    ensures fed { (method : Method) (text : List ℕ) → IsFed reader.old method text → result ≡ Piece.More → IsFed reader.new method (text ++ piece.now) }
+    ensures answer { (method : Method) (text : List ℕ) → IsFed reader.old method text
+        → IsFedAnswer (reply method (text ++ piece.now) false) result }
+    ensures fed { (method : Method) (text : List ℕ) → IsFed reader.old method text
+        → result ≡ Piece.More → IsFed reader.new method (text ++ piece.now) }
 {
     match reader.feed(piece).at {
         At::More => Piece::More,
@@ -57,7 +59,8 @@ fn fed(reader: &mut ReplyReader, piece: &[u8]) -> Piece
 
 /// What all bytes show, of which no more follow.
 fn shown_at_end(reader: ReplyReader) -> ReadEnd
-    ensures shown { (method : Method) (text : List ℕ) → IsFed reader method text → IsShown (reply method text true) result }
+    ensures shown { (method : Method) (text : List ℕ) → IsFed reader method text
+        → IsShown (reply method text true) result }
     ensures quiet { IsNoReadFault result }
 {
     match reader.end() {
@@ -77,7 +80,8 @@ fn read_piece<D: Dialer>(
     requires room { 0 < length window.old }
     ensures piece { (method : Method) (told : Option (List Traffic)) (least : ℕ)
         → IsUndecided link method (D.streams dialer.old) told (D.traffic dialer.old) least reader.old
-        → IsPieceOf link method (D.streams dialer.old) told (D.traffic dialer.new) least reader.new result }
+        → IsPieceOf link method
+        (D.streams dialer.old) told (D.traffic dialer.new) least reader.new result }
     ensures dials { D.dials dialer.new ≡ D.dials dialer.old }
     ensures opened { D.opened dialer.new ≡ D.opened dialer.old }
     ensures streams { D.streams dialer.new ≡ D.streams dialer.old }
@@ -104,7 +108,8 @@ pub(crate) fn read_reply<D: Dialer>(
     method: Method,
 ) -> ReadEnd
     requires { has_link link (D.opened dialer.old) ≡ true }
-    ensures reply { IsReplyRead link method (D.streams dialer.old) (D.traffic dialer.old) (D.traffic dialer.new) result }
+    ensures reply { IsReplyRead link method
+        (D.streams dialer.old) (D.traffic dialer.old) (D.traffic dialer.new) result }
     ensures dials { D.dials dialer.new ≡ D.dials dialer.old }
     ensures opened { D.opened dialer.new ≡ D.opened dialer.old }
     ensures streams { D.streams dialer.new ≡ D.streams dialer.old }
