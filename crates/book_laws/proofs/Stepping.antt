@@ -23,7 +23,7 @@ use Rattle.auth_events.proofs.Numbers.{numbered_in, some_of_test}
 use Rattle.auth_events.proofs.Same.{number_same, number_refl}
 use Rattle.history_laws.proofs.Leaving.{takes_out_retired}
 use Rattle.history_laws.proofs.Retiring.{retired_takes_out}
-use Rattle.book_laws.specs.Owners.{IsOwned, IsOwnedItem, items_of, maker, owner}
+use Rattle.book_laws.specs.Owners.{AddsOwn, IsOwned, IsOwnedItem, maker, owner}
 use Rattle.book_laws.proofs.Lifting.{past-append, filter-append}
 
 -- LENGTHS
@@ -121,36 +121,19 @@ module _ (names : Tables) (told more : List Told) (entry : Entry) (out : ℕ) (a
       at true same = subst (IsOwned callers) (sym same) owned
       at false same = subst (IsOwned callers) (sym same) (All-push (IsOwnedItem callers) told (Made entry) owned (subst (λ k. IsTrue (entry.caller == k)) home (number_refl entry.caller)))
 
-  -- the list begins with what it was, and what was added is the caller's
-  pub kept_after : IsPrefix told more
-  kept_after = at (is_pending entry.reply) after
-    where
-      at : (b : Bool) → more ≡ cond b told (told ++ Made entry ∷ []) → IsPrefix told more
-      at true same = ([], append-nil told ∙ sym same)
-      at false same = (Made entry ∷ [], sym same)
+-- what a call adds is its caller's
+pub adds_after : (told more : List Told) (entry : Entry) → more ≡ told_after told entry → AddsOwn entry.caller told more
+adds_after told more entry after = at (is_pending entry.reply) after
+  where
+    at : (b : Bool) → more ≡ cond b told (told ++ Made entry ∷ []) → AddsOwn entry.caller told more
+    at true same = record { items = []; grows = append-nil told ∙ sym same; own = All-nil (λ item. maker item ≡ entry.caller) }
+    at false same = record { items = Made entry ∷ []; grows = sym same; own = All-cons (λ item. maker item ≡ entry.caller) (Made entry) [] refl (All-nil (λ item. maker item ≡ entry.caller)) }
 
-  pub added_after : All (λ item. maker item ≡ entry.caller) (drop (length told) more)
-  added_after = at (is_pending entry.reply) after
-    where
-      at : (b : Bool) → more ≡ cond b told (told ++ Made entry ∷ []) → All (λ item. maker item ≡ entry.caller) (drop (length told) more)
-      at true same = subst (All (λ item. maker item ≡ entry.caller)) (sym (front_rest more told [] (same ∙ sym (append-nil told)))) (All-nil (λ item. maker item ≡ entry.caller))
-      at false same = subst (All (λ item. maker item ≡ entry.caller)) (sym (front_rest more told (Made entry ∷ []) same)) (All-cons (λ item. maker item ≡ entry.caller) (Made entry) [] refl (All-nil (λ item. maker item ≡ entry.caller)))
-
-  -- the caller's own items grow by what was added
-  pub mine_after : (mine : List Told) → mine ++ drop (length told) more ≡ told_after mine entry
-  mine_after mine = at (is_pending entry.reply) after
-    where
-      at : (b : Bool) → more ≡ cond b told (told ++ Made entry ∷ []) → mine ++ drop (length told) more ≡ cond b mine (mine ++ Made entry ∷ [])
-      at true same = ap (λ (l : List Told). mine ++ l) (front_rest more told [] (same ∙ sym (append-nil told))) ∙ append-nil mine
-      at false same = ap (λ (l : List Told). mine ++ l) (front_rest more told (Made entry ∷ []) same)
-
-  pub own_after : (number : ℕ) → entry.caller ≡ number → items_of number more ≡ told_after (items_of number told) entry
-  own_after number is = at (is_pending entry.reply) after
-    where
-      mine : (b : Bool) → (entry.caller == number) ≡ b → cond b (Made entry ∷ []) [] ≡ Made entry ∷ []
-      mine true same = refl
-      mine false other = absurd (false≢true (sym other ∙ subst (λ k. IsTrue (entry.caller == k)) is (number_refl entry.caller)))
-
-      at : (b : Bool) → more ≡ cond b told (told ++ Made entry ∷ []) → items_of number more ≡ cond b (items_of number told) (items_of number told ++ Made entry ∷ [])
-      at true same = ap (items_of number) same
-      at false same = ap (items_of number) same ∙ filter-append (λ item. maker item == number) told (Made entry ∷ []) ∙ ap (λ (l : List Told). items_of number told ++ l) (mine (entry.caller == number) refl)
+-- a list of the caller's own grows by the same
+pub items_after : (told more : List Told) (entry : Entry) (after : more ≡ told_after told entry) (mine : List Told) → mine ++ (adds_after told more entry after).items ≡ told_after mine entry
+items_after told more entry after mine =
+    ap (λ (l : List Told). mine ++ l) (sym (front_rest more told (adds_after told more entry after).items (sym (adds_after told more entry after).grows))) ∙ at (is_pending entry.reply) after
+  where
+    at : (b : Bool) → more ≡ cond b told (told ++ Made entry ∷ []) → mine ++ drop (length told) more ≡ cond b mine (mine ++ Made entry ∷ [])
+    at true same = ap (λ (l : List Told). mine ++ l) (front_rest more told [] (same ∙ sym (append-nil told))) ∙ append-nil mine
+    at false same = ap (λ (l : List Told). mine ++ l) (front_rest more told (Made entry ∷ []) same)
