@@ -5,6 +5,8 @@ pub mod Steps
 pub mod Sums
 pub mod Contexts
 pub mod Tokens
+pub mod Targets
+pub mod Asked
 pub mod AtHome
 pub mod OwnHeads
 pub mod Outcomes

@@ -25,10 +25,13 @@ use Rattle.negotiate_handler.specs.Tokens.{negotiate_credentials}
 use Rattle.trace_rule.specs.Heads.{credentials, digest_field, field, field_of}
 use Rattle.trace_rule.specs.Serving.{setting_in}
 use Rattle.trace_rule.specs.Traces.{IsPast, IsRun, IsCut, IsTrace, prompt_open, with_loss}
+use Rattle.trace_rule.proofs.Drops.{spaces_numbered}
 use Rattle.trace_rule.proofs.Holdings.{WasTold, AreTold, told_held, calls_go_on}
 use Rattle.trace_laws.specs.Homes.{IsAtHome, IsOwnField, IsOwn, AreOwnHeads}
 use Rattle.trace_laws.specs.Homes.IsOwnField.{none, by_password, by_digest, by_token}
-use Rattle.trace_laws.proofs.AtHome.{IsTargeted, targeted, home_of, was_told_site}
+use Rattle.trace_laws.proofs.Asked.{IsAskedIf, asked_held}
+use Rattle.trace_laws.proofs.AtHome.{home_of, was_told_site}
+use Rattle.trace_laws.proofs.Targets.{IsTargeted, targeted}
 use Rattle.trace_laws.proofs.Contexts.{headed_by}
 use Rattle.trace_laws.proofs.Tokens.{IsGiven, IsGivenIn, given_held}
 
@@ -40,7 +43,7 @@ module _ (negotiate : Bool) (roster : Roster) (seed : List ℕ) (names : Tables)
   Owns past t value = IsOwnField roster names entries request here past t value
 
   -- the field is made of who is held
-  by_scheme : (past : List Event) (t : Target) (h : Held) → IsAtHome names request t h.gift → IsGiven here past t (Some h) → (n d : Bool)
+  by_scheme : (past : List Event) (t : Target) (h : Held) → IsAtHome names request here past t h.gift → IsGiven here past t (Some h) → (n d : Bool)
       → Owns past t (if n then option_map negotiate_credentials (option_and_then unsent h.context) else (if d then option_and_then (λ name. option_map (digest_field here past t name.terms) (here.identity_of h.gift)) (here.terms_of h.terms) else option_map credentials (here.identity_of h.gift)))
   by_scheme past t h home given true d = at h.context given
     where
@@ -72,12 +75,12 @@ module _ (negotiate : Bool) (roster : Roster) (seed : List ℕ) (names : Tables)
 
   module _ (in_roster : numbered roster.requests r ≡ Some request) where
     own_field : (past : List Event) → IsPast here past → IsHome past → (t : Target) → Owns past t (field here past t)
-    own_field past run home t = at (held here past t) (targeted here past run t) (told_held here past run t) (given_held here past run t)
+    own_field past run home t = at (held here past t) (targeted here past run t) (asked_held here (spaces_numbered negotiate roster seed names entries r request) past run t) (told_held here past run t) (given_held here past run t)
       where
-        at : (o : Option Held) → IsTargeted here t o → AreTold o (calls past) → IsGiven here past t o → Owns past t (option_and_then (field_of here past t) o)
-        at None target told given = none refl
-        at (Some h) target told given =
-            by_scheme past t h (home_of roster names negotiate seed entries r request in_roster t h.gift target (home h.gift told)) given (scheme_is here h.gift.space Negotiate) (scheme_is here h.gift.space Digest)
+        at : (o : Option Held) → IsTargeted here t o → IsAskedIf here past t o → AreTold o (calls past) → IsGiven here past t o → Owns past t (option_and_then (field_of here past t) o)
+        at None target asked told given = none refl
+        at (Some h) target asked told given =
+            by_scheme past t h (home_of roster names negotiate seed entries r request in_roster past t h.gift target asked (home h.gift told)) given (scheme_is here h.gift.space Negotiate) (scheme_is here h.gift.space Digest)
 
     own_event : (event : Event) (past : List Event) → IsPast here (event ∷ past) → IsHome past → IsOwn roster names entries request here past event
     own_event (Headed link bytes) past run home =

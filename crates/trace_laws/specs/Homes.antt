@@ -1,5 +1,5 @@
 -- Whose credentials a request's heads carry: those of its own sites alone.
-use Rattle.std.specs.Prelude.{ℕ, ◌≡◌, ◌==◌, ◌&&◌, Bool, false, bytes_eq, if◌then◌else◌, IsTrue, List, [], ◌∷◌, reverse, Option, None, Some}
+use Rattle.std.specs.Prelude.{ℕ, ◌≡◌, ◌==◌, ◌&&◌, ◌||◌, Bool, false, true, bytes_eq, if◌then◌else◌, IsTrue, List, [], ◌∷◌, reverse, Option, None, Some}
 use Rattle.std.specs.List.{list_any}
 use Rattle.auth_text.specs.Login.{Login}
 use Rattle.spaces.specs.declared.roster.Request.{Request}
@@ -8,17 +8,20 @@ use Rattle.spaces.specs.declared.site.Target.{Target}
 use Rattle.spaces.specs.declared.site.Target.TheVariants.{Server, Proxy}
 use Rattle.spaces.specs.declared.terms.Terms.{Terms}
 use Rattle.spaces.specs.ProtectionSpaces.{ProtectionSpace}
-use Rattle.spaces.specs.Sites.{numbered, site, same_target}
+use Rattle.spaces.specs.Sites.{numbered, site, same_space, same_target}
 use Rattle.auth_events.specs.declared.journal.Entry.{Entry}
 use Rattle.auth_events.specs.declared.journal.Gift.{Gift}
-use Rattle.auth_events.specs.Book.{IsLegalPast}
+use Rattle.auth_events.specs.declared.journal.Call.TheVariants.{Preempt}
+use Rattle.auth_events.specs.declared.journal.BookReply.TheVariants.{Ready}
+use Rattle.auth_events.specs.Book.{IsLegalPast, same_gift}
 use Rattle.auth_events.specs.Identities.{identity}
 use Rattle.auth_events.specs.Tables.{Tables}
 use Rattle.link_trait.specs.declared.steps.StepSeen.TheVariants.{Token}
 use Rattle.wire_head.specs.RequestHeads.{head}
 use Rattle.auth_runs.specs.declared.event.Event.{Event}
-use Rattle.auth_runs.specs.declared.event.Event.TheVariants.{Headed, Stepped}
+use Rattle.auth_runs.specs.declared.event.Event.TheVariants.{Called, Headed, Replied, Stepped}
 use Rattle.trace_rule.specs.Settings.{Setting, or_else}
+use Rattle.trace_rule.specs.Challenges.{challenges_target, space_at, supported}
 use Rattle.trace_rule.specs.Entries.{AreEntries}
 use Rattle.negotiate_handler.specs.Tokens.{negotiate_credentials}
 use Rattle.trace_rule.specs.Heads.{credentials, digest_field, keeps, uri}
@@ -29,13 +32,25 @@ use Rattle.trace_rule.specs.Closings.{want}
 use Rattle.trace_rule.specs.Serving.{setting_in}
 use Rattle.trace_rule.specs.Traces.{IsTrace}
 
--- SITES
+-- SITES AND REALMS
 
--- the space of the gift is one of the request's site for the target: of its partition, of that target, at its origin
-pub record IsAtHome (names : Tables) (request : Request) (t : Target) (gift : Gift) : Type 0 where
+-- the book had the gift ready for the target, by the request's path
+abbrev pub readies : Target → Gift → Event → Bool
+readies t gift (Called (Preempt target) (Ready told terms epoch)) = same_target target t && same_gift told gift
+readies t gift _ = false
+
+-- the event is a challenge of the target in the space, with its scheme and realm
+abbrev pub asks_in : Setting → Target → ProtectionSpace → Event → Bool
+asks_in s t space (Replied link reply) =
+    challenges_target s reply t && list_any (λ offered. same_space (space_at space.site offered) space) (supported true reply)
+asks_in s t space _ = false
+
+-- the space of the gift is one of the request's site for the target: of its partition, of that target, at its origin; and the target asked there, or the book had it ready
+pub record IsAtHome (names : Tables) (request : Request) (s : Setting) (past : List Event) (t : Target) (gift : Gift) : Type 0 where
   pub space : ProtectionSpace
   pub is_space : numbered names.spaces gift.space ≡ Some space
   pub is_site : site request t ≡ Some space.site
+  pub is_asked : IsTrue (list_any (readies t gift) past || list_any (asks_in s t space) past)
 
 -- TOKENS
 
@@ -64,11 +79,11 @@ who roster names entries gift = if gift.ordinal == 0 then None else identity ros
 -- a target's field is absent, or made of the password that one gift of the request's own site stands for, or of a token that the provider gave for who that is
 pub data IsOwnField (roster : Roster) (names : Tables) (entries : List Entry) (request : Request) (s : Setting) (past : List Event) (t : Target) (field : Option (List ℕ)) : Type 0 where
   none : field ≡ None → IsOwnField roster names entries request s past t field
-  by_password : (gift : Gift) → (login : Login) → IsAtHome names request t gift → identity roster names entries gift ≡ Some login
+  by_password : (gift : Gift) → (login : Login) → IsAtHome names request s past t gift → identity roster names entries gift ≡ Some login
       → field ≡ Some (credentials login) → IsOwnField roster names entries request s past t field
-  by_digest : (gift : Gift) → (login : Login) → (terms : Terms) → IsAtHome names request t gift → identity roster names entries gift ≡ Some login
+  by_digest : (gift : Gift) → (login : Login) → (terms : Terms) → IsAtHome names request s past t gift → identity roster names entries gift ≡ Some login
       → field ≡ Some (digest_field s past t terms login) → IsOwnField roster names entries request s past t field
-  by_token : (gift : Gift) → (token : List ℕ) → IsAtHome names request t gift → IsTrue (list_any (gives_token t token) past)
+  by_token : (gift : Gift) → (token : List ℕ) → IsAtHome names request s past t gift → IsTrue (list_any (gives_token t token) past)
       → last_start s past t ≡ Some (Start (spn s t) (who roster names entries gift))
       → field ≡ Some (negotiate_credentials token) → IsOwnField roster names entries request s past t field
 
