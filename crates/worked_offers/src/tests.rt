@@ -1,8 +1,9 @@
 //! Offers of whole replies, by examples of the RFCs.
 
 use auth_text::{Bytes, NoMemory};
-use challenge_offers::{Offer, best, first_of_space, next_nonce, peer_token, supported};
+use challenge_offers::{Offer, best, first_of_space, next_nonce, supported};
 use challenge_tokens::read_field;
+use negotiate_handler::peer_token;
 use spaces::{Algorithm, Origin, Partition, Scheme, Site, Space, Target};
 use std::alloc::Global;
 use std::test::Fail;
