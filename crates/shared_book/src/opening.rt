@@ -1,12 +1,13 @@
 //! How a shared book is opened: the words, the lock round the book, and a caller for each pass; and
 //! how it is closed again.
 
-ghost use Rattle.std.specs.Prelude.{◌≡◌, ℕ, ◌+◌, ◌*◌, ◌^◌, ◌≤◌, ◌++◌, ◌∷◌, [], All, IfErr, IfOk, length, vec_capacity, vec_len};
+ghost use Rattle.std.specs.Prelude.{◌≡◌, ℕ, ◌+◌, ◌*◌, ◌^◌, ◌≤◌, ◌++◌, ◌∷◌, [], All, List, IfErr, IfOk, length, vec_capacity, vec_len};
 ghost use Rattle.nonce_words.specs.Fresh.{IsFresh};
 ghost use Rattle.turnstile.specs.Passes.{AreNewPasses, IsOf};
-ghost use Rattle.auth_events.specs.Book.{epoch};
-ghost use Rattle.auth_events.specs.Told.{past};
+ghost use Rattle.auth_events.specs.Book.{IsLegal, epoch};
+ghost use Rattle.auth_events.specs.Told.{journal, past};
 ghost use Rattle.book_laws.specs.Owners.{IsOwned};
+ghost use Rattle.isolation.specs.Partitions.{alone_in};
 ghost use Rattle.shared_book.specs.Callers.{AreNewCallers, IsCallerOf, IsKnown, drawn_by};
 ghost use Rattle.shared_book.specs.Opening.{AreHired, IsJoined, IsShare};
 
@@ -17,6 +18,7 @@ use crate::locked::Locked;
 use crate::room::Room;
 use crate::shared::{NotShared, SharedBook};
 use auth_events::Controller;
+use isolation::journal_is_alone_in_each_partition;
 use nonce_words::{DrawSeat, NonceWords};
 use std::alloc::Global;
 use std::sync::Mutex;
@@ -174,7 +176,7 @@ impl<B: Controller> SharedBook<B> {
     /// Gives the book up, once all callers are back. It tells all that any caller has seen, and each
     /// caller's own items are those of its number. Of each nonce the counts that were drawn are 1 to
     /// some number, each once, their epochs don't fall as the counts rise, and none is above the
-    /// journal's.
+    /// journal's. What each partition has alone of the journal is legal by itself.
     pub fn close(self, callers: Callers<B>) -> B
         requires all { length callers.list ≡ self.callers }
         requires callers { All (IsCallerOf self) callers.list }
@@ -184,6 +186,8 @@ impl<B: Controller> SharedBook<B> {
         ensures fresh { IsFresh (drawn_by callers.list)
             (epoch (B.names result) (past (B.told result))) }
         ensures few { length (drawn_by callers.list) ≤ 2 ^ 30 }
+        ensures alone { (partition : List ℕ) → IsLegal (B.roster result) (B.names result)
+            (alone_in (B.roster result) partition (journal (B.told result))) }
     {
         let SharedBook {
             turnstile,
@@ -206,6 +210,7 @@ impl<B: Controller> SharedBook<B> {
         } = turnstile.close(passes);
         words.join(&mut spare, seat);
         words.close(mark, spare);
+        journal_is_alone_in_each_partition(&book);
         book
     }
 }
