@@ -12,13 +12,13 @@ ghost use Rattle.auth_cli.specs.Headline.{IsLoneRunOf, IsTextOf};
 
 use crate::first::{is_first, lone_request};
 use crate::words::Command;
+use auth_book::AuthBook;
 use auth_controller::serve_challenge;
 use auth_events::Controller;
 use auth_report::text_of;
 use auth_runs::{Run, Trace, Traces};
 use auth_text::{Bytes, Items, NoMemory};
 use link_trait::{Answers, Calls, Links, RecordedDialer, ScriptPrompter};
-use plain_book::PlainBook;
 use session_text::{Session, counts_of};
 use spaces::{Request, Roster};
 use std::alloc::Global;
@@ -28,18 +28,18 @@ fn empty_run(alloc: Global, session: Session, seed: [u8; 32]) -> Result<Run, NoM
     requires { session.roster.requests ≡ [] }
     ensures { IfOk result (λ run. IsLoneRunOf session seed run) }
 {
-    let (roster, names, journal) = PlainBook::new(alloc, &session.roster)?.into_parts();
+    let (roster, names, journal) = AuthBook::new(alloc, &session.roster)?.into_parts();
     Ok(Run::new(seed, roster, names, journal, Traces::new(alloc)))
 }
 
 /// The run that the book recorded, with one request's trace.
-fn run_of(alloc: Global, book: PlainBook, trace: Trace, seed: [u8; 32]) -> Result<Run, NoMemory>
-    requires { length (⟦<PlainBook as Controller>⟧.roster book).requests ≤ 2048 }
+fn run_of(alloc: Global, book: AuthBook, trace: Trace, seed: [u8; 32]) -> Result<Run, NoMemory>
+    requires { length (⟦<AuthBook as Controller>⟧.roster book).requests ≤ 2048 }
     ensures { IfOk result (λ run. run ≡ record {
       seed = seed;
-      roster = ⟦<PlainBook as Controller>⟧.roster book;
-      names = names_told (⟦<PlainBook as Controller>⟧.told book);
-      journal = journal (⟦<PlainBook as Controller>⟧.told book);
+      roster = ⟦<AuthBook as Controller>⟧.roster book;
+      names = names_told (⟦<AuthBook as Controller>⟧.told book);
+      journal = journal (⟦<AuthBook as Controller>⟧.told book);
       traces = trace ∷ [];
     }) }
 {
@@ -66,7 +66,7 @@ fn first_run(
         → answer_in answers.now (server_space request.now realm) 1 ≡ Some login
         → run ≡ first_run seed request.now challenge realm login last) }
 {
-    let mut book = PlainBook::new(alloc, roster)?;
+    let mut book = AuthBook::new(alloc, roster)?;
     let mut dialer = RecordedDialer::new(alloc, links, Calls::new(alloc));
     let mut prompter = ScriptPrompter::new(alloc, answers)?;
     let trace = serve_challenge(alloc, &mut book, &mut dialer, &mut prompter, request)?;
