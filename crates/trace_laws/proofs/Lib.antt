@@ -8,12 +8,13 @@ pub mod Tokens
 pub mod Targets
 pub mod Asked
 pub mod AtHome
+pub mod Givings
+pub mod Schemes
+pub mod HeldTerms
 pub mod OwnHeads
 pub mod Outcomes
 pub mod Settling
-pub mod Hearing
-pub mod Givings
-pub mod Schemes
 pub mod Suiting
 pub mod Readings
 pub mod Offers
+pub mod Hearing

@@ -6,11 +6,11 @@ use Rattle.spaces.specs.declared.roster.Request.{Request}
 use Rattle.spaces.specs.declared.roster.Roster.{Roster}
 use Rattle.spaces.specs.declared.site.Target.{Target}
 use Rattle.spaces.specs.declared.site.Target.TheVariants.{Server, Proxy}
-use Rattle.spaces.specs.declared.terms.Terms.{Terms}
 use Rattle.spaces.specs.ProtectionSpaces.{ProtectionSpace}
 use Rattle.spaces.specs.Sites.{numbered, site, same_space, same_target}
 use Rattle.auth_events.specs.declared.journal.Entry.{Entry}
 use Rattle.auth_events.specs.declared.journal.Gift.{Gift}
+use Rattle.auth_events.specs.declared.names.TermsName.{TermsName}
 use Rattle.auth_events.specs.declared.journal.Call.TheVariants.{Preempt}
 use Rattle.auth_events.specs.declared.journal.BookReply.TheVariants.{Ready}
 use Rattle.auth_events.specs.Book.{IsLegalPast, same_gift}
@@ -76,13 +76,14 @@ who roster names entries gift = if gift.ordinal == 0 then None else identity ros
 
 -- HEADS
 
--- a target's field is absent, or made of the password that one gift of the request's own site stands for, or of a token that the provider gave for who that is
+-- a target's field is absent, or made of the identity that one gift of the request's own site stands for, with terms of its space where it is a digest, or of a token that the provider gave for who that is
 pub data IsOwnField (roster : Roster) (names : Tables) (entries : List Entry) (request : Request) (s : Setting) (past : List Event) (t : Target) (field : Option (List ℕ)) : Type 0 where
   none : field ≡ None → IsOwnField roster names entries request s past t field
   by_password : (gift : Gift) → (login : Login) → IsAtHome names request s past t gift → identity roster names entries gift ≡ Some login
       → field ≡ Some (credentials login) → IsOwnField roster names entries request s past t field
-  by_digest : (gift : Gift) → (login : Login) → (terms : Terms) → IsAtHome names request s past t gift → identity roster names entries gift ≡ Some login
-      → field ≡ Some (digest_field s past t terms login) → IsOwnField roster names entries request s past t field
+  by_digest : (gift : Gift) → (login : Login) → (number : ℕ) → (name : TermsName) → IsAtHome names request s past t gift → identity roster names entries gift ≡ Some login
+      → numbered names.terms number ≡ Some name → name.space ≡ gift.space
+      → field ≡ Some (digest_field s past t name.terms login) → IsOwnField roster names entries request s past t field
   by_token : (gift : Gift) → (token : List ℕ) → IsAtHome names request s past t gift → IsTrue (list_any (gives_token t token) past)
       → last_start s past t ≡ Some (Start (spn s t) (who roster names entries gift))
       → field ≡ Some (negotiate_credentials token) → IsOwnField roster names entries request s past t field

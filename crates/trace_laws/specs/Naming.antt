@@ -6,13 +6,14 @@ use Rattle.spaces.specs.declared.site.Target.{Target}
 use Rattle.spaces.specs.declared.space.Scheme.TheVariants.{Digest}
 use Rattle.spaces.specs.declared.terms.Terms.{Terms}
 use Rattle.auth_events.specs.declared.journal.Entry.{Entry}
+use Rattle.auth_events.specs.declared.names.TermsName.{TermsName}
 use Rattle.auth_events.specs.Fresh.{knows}
 use Rattle.auth_events.specs.Identities.{giving}
 use Rattle.auth_events.specs.Tables.{Tables, is_home}
 use Rattle.wire_head.specs.declared.reply.Reply.{Reply}
 use Rattle.trace_rule.specs.Challenges.{Offer, best, space_at, supported}
-use Rattle.trace_rule.specs.Closings.{want}
-use Rattle.trace_rule.specs.Holding.{Held, deciding, held}
+use Rattle.trace_rule.specs.Closings.{want, with_nonce}
+use Rattle.trace_rule.specs.Holding.{Held, carried, deciding, held}
 use Rattle.trace_rule.specs.Holding.Decision.{Offering}
 use Rattle.trace_rule.specs.Laws.{WhereServed}
 use Rattle.trace_rule.specs.Moves.Want.{Draws}
@@ -55,3 +56,11 @@ RenewedTermsAreAtHome =
     WhereServed (λ names entries roster caller r s past.
     (reply : Reply) → (t : Target) → (h : Held) → (offered : Offer) → (terms : Terms)
     → deciding s reply t h ≡ Some (Offering offered) → offered.terms ≡ Some terms → IsTrue (is_home names h.gift.space terms))
+
+-- and so are the terms that a Digest gift went out with, with another nonce
+abbrev pub NextTermsAreAtHome : Type 0
+NextTermsAreAtHome =
+    WhereServed (λ names entries roster caller r s past.
+    (t : Target) → (h : Held) → (name : TermsName) → (nonce : List ℕ)
+    → carried s past t ≡ Some h → IsTrue (scheme_is s h.gift.space Digest) → numbered names.terms h.terms ≡ Some name
+    → IsTrue (is_home names h.gift.space (with_nonce nonce name.terms)))

@@ -16,6 +16,7 @@ pub use endings::{cuts_are_allowed, losses_are_allowed, prompts_are_settled, tra
 pub use homes::heads_carry_their_own;
 pub use lengths::{events_are_few, pasts_leave_room};
 pub use naming::{
-    drawn_nonces_are_known, held_is_readable, offered_terms_are_at_home, renewed_terms_are_at_home,
+    drawn_nonces_are_known, held_is_readable, next_terms_are_at_home, offered_terms_are_at_home,
+    renewed_terms_are_at_home,
 };
 pub use sources::traces_are_determined_by_streams;

@@ -1,6 +1,6 @@
 //! What a request may read and name. Each law is the contract of an empty function.
 
-ghost use Rattle.trace_laws.specs.Naming.{DrawnNoncesAreKnown, HeldIsReadable, OfferedTermsAreAtHome, RenewedTermsAreAtHome};
+ghost use Rattle.trace_laws.specs.Naming.{DrawnNoncesAreKnown, HeldIsReadable, NextTermsAreAtHome, OfferedTermsAreAtHome, RenewedTermsAreAtHome};
 
 /// The space, the identity and the terms of what a request holds may be read of the book.
 pub fn held_is_readable()
@@ -20,4 +20,9 @@ pub fn offered_terms_are_at_home()
 /// The terms of a stale challenge may be named in the space of what is held.
 pub fn renewed_terms_are_at_home()
     ensures { RenewedTermsAreAtHome }
+{}
+
+/// The terms that a Digest gift went out with may be named with the next nonce that came for it.
+pub fn next_terms_are_at_home()
+    ensures { NextTermsAreAtHome }
 {}
