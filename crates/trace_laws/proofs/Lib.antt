@@ -3,6 +3,7 @@ pub mod Ways
 pub mod Counted
 pub mod Steps
 pub mod Sums
+pub mod Choices
 pub mod Contexts
 pub mod Tokens
 pub mod Targets

@@ -1,6 +1,6 @@
-//! How many events a request has. Each law is the contract of an empty function.
+//! How many events a request has, and how often it chooses. Each law is the contract of an empty function.
 
-ghost use Rattle.trace_laws.specs.Lengths.{PastsLeaveRoom, EventsAreFew};
+ghost use Rattle.trace_laws.specs.Lengths.{ChoicesAreFew, EventsAreFew, PastsLeaveRoom};
 
 /// At every moment a request has had so few events that eight more have a place among 256.
 pub fn pasts_leave_room()
@@ -10,4 +10,10 @@ pub fn pasts_leave_room()
 /// A request has at most 256 events.
 pub fn events_are_few()
     ensures { EventsAreFew }
+{}
+
+/// A request chooses a space or new terms at most 17 times before its end, and at most 16 times where
+/// the provider never lacked a mechanism.
+pub fn choices_are_few()
+    ensures { ChoicesAreFew }
 {}

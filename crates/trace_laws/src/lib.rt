@@ -1,5 +1,6 @@
-//! Laws of a request's trace that nothing of its rule rests on: how long it is, where its tokens go,
-//! and whose identities its heads carry.
+//! Laws of a request's trace that nothing of its rule rests on: how long it is and how it ends, where
+//! its tokens go, whose identities its heads carry, what makes it, and that a book that serves it may
+//! be asked, and answers, what the rule wants.
 #![tactic(auto)]
 
 mod answering;
@@ -14,7 +15,7 @@ pub use answering::{answers_suit, texts_suit};
 pub use bindings::{pasts_keep_to_their_link, tokens_keep_to_their_link};
 pub use endings::{cuts_are_allowed, losses_are_allowed, prompts_are_settled, traces_are_whole};
 pub use homes::heads_carry_their_own;
-pub use lengths::{events_are_few, pasts_leave_room};
+pub use lengths::{choices_are_few, events_are_few, pasts_leave_room};
 pub use naming::{
     drawn_nonces_are_known, held_is_readable, next_terms_are_at_home, offered_terms_are_at_home,
     renewed_terms_are_at_home,
