@@ -107,7 +107,7 @@ uses s past call reply run = at (made_by s past call reply run.1)
 abbrev IsBalanced : Setting → List Event → Type 0
 IsBalanced s past = choices s past + one_if (is_due s past) ≤ rounds s past + drops s past
 
-balanced : (s : Setting) (past : List Event) → IsPast s past → IsBalanced s past
+pub balanced : (s : Setting) (past : List Event) → IsPast s past → IsBalanced s past
 balanced s [] run = omega arith
 balanced s (Called call reply ∷ past) run = let h : choices s past + one_if (is_due s past) ≤ rounds s past + drops s past = balanced s past run.0 in let u : one_if (is_choice s past call) + one_if (is_due s (Called call reply ∷ past)) ≤ one_if (is_due s past) = uses s past call reply run in omega (arith, h, u)
 balanced s (Replied link reply ∷ past) run = omega (arith, balanced s past run.0)
@@ -144,7 +144,7 @@ closing_within s past o e (by_call call reply p k) h =
     subst (λ x. IsWithin s (x ∷ past)) (sym p) (let none : ◌≡◌ {A = ℕ} (if is_choice s past call then 1 else 0) 0 = ap {B = ℕ} (λ b. if b then 1 else 0) (end_none s past call k) in omega (arith, h, none))
 closing_within s past o e (by_outcome p) h = subst (λ x. IsWithin s (x ∷ past)) (sym p) h
 
-within : (s : Setting) (past : List Event) → IsPast s past → IsWithin s past
+pub within : (s : Setting) (past : List Event) → IsPast s past → IsWithin s past
 within s [] run = omega arith
 within s (e ∷ past) run = at (few_rounds s (e ∷ past) run) (within s past run.0)
   where
@@ -164,7 +164,7 @@ within s (e ∷ past) run = at (few_rounds s (e ∷ past) run) (within s past ru
     at (inr (whole, done)) before = last whole (few_rounds s past run.0) before
 
 -- where the provider never lacked a mechanism nothing was dropped
-none_dropped : (s : Setting) (past : List Event) → list_any is_no_mechanism past ≡ false → drops s past ≡ 0
+pub none_dropped : (s : Setting) (past : List Event) → list_any is_no_mechanism past ≡ false → drops s past ≡ 0
 none_dropped s [] none = refl
 none_dropped s (Stepped t NoMechanism ∷ past) none = absurd (false≢true (sym none))
 none_dropped s (_ ∷ past) none = none_dropped s past none

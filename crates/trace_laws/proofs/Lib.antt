@@ -4,6 +4,7 @@ pub mod Counted
 pub mod Steps
 pub mod Sums
 pub mod Choices
+pub mod Renewals
 pub mod Contexts
 pub mod Tokens
 pub mod Targets

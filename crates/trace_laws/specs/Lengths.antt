@@ -37,3 +37,21 @@ abbrev pub ChoicesAreFew : Type 0
 ChoicesAreFew =
     (s : Setting) → IsNumbered s → (past : List Event) → IsPast s past
     → choices s past ≤ (if list_any is_no_mechanism past then 17 else 16)
+
+-- the call gives terms of a number: a choice, or a renewal at the end
+abbrev pub gives_terms : Call → Bool
+gives_terms (Select space terms) = true
+gives_terms (Renew gift terms) = true
+gives_terms call = false
+
+-- how many of them were made
+abbrev pub terms_given : List Event → ℕ
+terms_given [] = 0
+terms_given (Called call reply ∷ past) = (if gives_terms call then 1 else 0) + terms_given past
+terms_given (event ∷ past) = terms_given past
+
+-- with the renewals at the end they are no more
+abbrev pub TermsAreFew : Type 0
+TermsAreFew =
+    (s : Setting) → IsNumbered s → (past : List Event) → IsPast s past
+    → terms_given past ≤ (if list_any is_no_mechanism past then 17 else 16)

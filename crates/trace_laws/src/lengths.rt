@@ -1,6 +1,7 @@
-//! How many events a request has, and how often it chooses. Each law is the contract of an empty function.
+//! How many events a request has, and how often it chooses. Each law is the contract of an empty
+//! function.
 
-ghost use Rattle.trace_laws.specs.Lengths.{ChoicesAreFew, EventsAreFew, PastsLeaveRoom};
+ghost use Rattle.trace_laws.specs.Lengths.{ChoicesAreFew, EventsAreFew, PastsLeaveRoom, TermsAreFew};
 
 /// At every moment a request has had so few events that eight more have a place among 256.
 pub fn pasts_leave_room()
@@ -16,4 +17,9 @@ pub fn events_are_few()
 /// the provider never lacked a mechanism.
 pub fn choices_are_few()
     ensures { ChoicesAreFew }
+{}
+
+/// With the renewals at its end a request gives terms no more often than that.
+pub fn terms_are_few()
+    ensures { TermsAreFew }
 {}

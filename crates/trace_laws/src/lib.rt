@@ -15,7 +15,7 @@ pub use answering::{answers_suit, texts_suit};
 pub use bindings::{pasts_keep_to_their_link, tokens_keep_to_their_link};
 pub use endings::{cuts_are_allowed, losses_are_allowed, prompts_are_settled, traces_are_whole};
 pub use homes::heads_carry_their_own;
-pub use lengths::{choices_are_few, events_are_few, pasts_leave_room};
+pub use lengths::{choices_are_few, events_are_few, pasts_leave_room, terms_are_few};
 pub use naming::{
     drawn_nonces_are_known, held_is_readable, next_terms_are_at_home, offered_terms_are_at_home,
     renewed_terms_are_at_home,
