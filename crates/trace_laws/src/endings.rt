@@ -7,13 +7,14 @@ pub fn traces_are_whole()
     ensures { TracesAreWhole }
 {}
 
-/// At its end a request waits for no prompt: each that it led is settled, and each that it followed is
-/// taken.
+/// At its end a request waits for no prompt: each that it led is settled, and each that it
+/// followed is taken.
 pub fn prompts_are_settled()
     ensures { PromptsAreSettled }
 {}
 
-/// Where a request may run out of memory, the loss of the prompt that it leads may be told to the book.
+/// Where a request may run out of memory, the loss of the prompt that it leads may be told to the
+/// book.
 pub fn losses_are_allowed()
     ensures { LossesAreAllowed }
 {}

@@ -13,8 +13,8 @@ pub fn events_are_few()
     ensures { EventsAreFew }
 {}
 
-/// A request chooses a space or new terms at most 17 times before its end, and at most 16 times where
-/// the provider never lacked a mechanism.
+/// A request chooses a space or new terms at most 17 times before its end, and at most 16 times
+/// where the provider never lacked a mechanism.
 pub fn choices_are_few()
     ensures { ChoicesAreFew }
 {}

@@ -1,6 +1,6 @@
-//! Laws of a request's trace that nothing of its rule rests on: how long it is and how it ends, where
-//! its tokens go, whose identities its heads carry, what makes it, and that a book that serves it may
-//! be asked, and answers, what the rule wants.
+//! Laws of a request's trace that nothing of its rule rests on: how long it is and how it ends,
+//! where its tokens go, whose identities its heads carry, what makes it, and that a book that
+//! serves it may be asked, and answers, what the rule wants.
 #![tactic(auto)]
 
 mod answering;

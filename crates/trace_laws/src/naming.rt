@@ -7,7 +7,8 @@ pub fn held_is_readable()
     ensures { HeldIsReadable }
 {}
 
-/// A nonce of which a count is wanted is known to the request: terms with it stand in an entry of its.
+/// A nonce of which a count is wanted is known to the request: terms with it stand in an entry of
+/// its.
 pub fn drawn_nonces_are_known()
     ensures { DrawnNoncesAreKnown }
 {}
