@@ -6,6 +6,7 @@ ghost use Rattle.liars.specs.Lies.{nobody_asked, not_listened, another_identity,
 ghost use Rattle.liars.specs.Drawn.{drawn_roster, drawn_outside, drawn_twice, out_of_turn, passed_over, future_epoch, never_drawn, nonce_twice};
 ghost use Rattle.liars.specs.Shared.{shared_roster, cancelled_for_one, not_taken, asked_again};
 ghost use Rattle.liars.specs.Proxied.{proxied_roster, proxied_outside, proxys_to_the_server, servers_to_the_proxy};
+ghost use Rattle.liars.specs.Stale.{stale_outside, asked_anew};
 
 /// What a prompter was asked, and what it answered.
 pub fn prompts()
@@ -14,6 +15,7 @@ pub fn prompts()
     ensures another_identity { ¬ (IsLoneRun one_request outside seed another_identity) }
     ensures never_asked { ¬ (IsLoneRun one_request outside seed never_asked) }
     ensures asked_twice { ¬ (IsLoneRun one_request outside seed asked_twice) }
+    ensures asked_anew { ¬ (IsLoneRun one_request stale_outside seed asked_anew) }
 {}
 
 /// What goes out, and where.
