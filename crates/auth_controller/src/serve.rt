@@ -259,8 +259,8 @@ fn send_again<D: Dialer>(
 }
 
 /// Serves the roster's one request, which goes to its server and whose URL has no identity. Its first
-/// link gives a Basic challenge and its second one another reply; the prompt of the challenge's space is
-/// answered.
+/// link gives just one challenge, a Basic one, and its second link another reply; the prompt of the
+/// challenge's space is answered.
 ///
 /// What the book, the dialer and the prompter tell afterwards is exactly what such a request asks of
 /// them, and the trace is that of these events.
