@@ -11,7 +11,7 @@ use std::alloc::Global;
 use wire_head::Reply;
 
 /// Challenges that can be answered, in the order of the reply.
-pub type Offers = Items<Offer>;
+pub(crate) type Offers = Items<Offer>;
 
 /// Adds what the challenges offer.
 fn push_offers(
@@ -33,7 +33,7 @@ fn push_offers(
 
 /// The challenges of a reply that can be answered: all of its Basic ones but those with a token68, the
 /// Digest ones whose terms can be computed, and the Negotiate ones where `negotiates` holds.
-pub fn supported(alloc: Global, negotiates: bool, reply: &Reply) -> Result<Offers, NoMemory>
+pub(crate) fn supported(alloc: Global, negotiates: bool, reply: &Reply) -> Result<Offers, NoMemory>
     ensures { IfOk result (λ offers. map offered offers ≡ rule.supported negotiates reply.now) }
 {
     let mut offers = Offers::new(alloc);

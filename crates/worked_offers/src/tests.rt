@@ -1,9 +1,7 @@
 //! Offers of whole replies, by examples of the RFCs.
 
 use auth_text::{Bytes, NoMemory};
-use challenge_offers::{Offer, best, first_of_space, next_nonce, supported};
-use challenge_tokens::read_field;
-use negotiate_handler::peer_token;
+use challenge_offers::{Offer, best_offer, deciding_offer, next_nonce};
 use spaces::{Algorithm, Origin, Partition, Scheme, Site, Space, Target};
 use std::alloc::Global;
 use std::test::Fail;
@@ -90,8 +88,8 @@ fn the_best_challenge_is_taken(rt: HostRuntime) -> Result<(), Fail> {
     ];
     for (values, negotiates, expected) in rows {
         let reply = challenged(alloc, values).map_err(|_| "memory")?;
-        let offers = supported(alloc, negotiates, &reply).map_err(|_| "memory")?;
-        assert_eq!(rt; seen(best(offers.as_slice())), expected);
+        let offer = best_offer(alloc, negotiates, &reply).map_err(|_| "memory")?;
+        assert_eq!(rt; seen(offer.as_ref()), expected);
     }
     Ok(())
 }
@@ -112,7 +110,6 @@ fn server(alloc: Global) -> Result<Site, Fail> {
 fn the_first_challenge_of_a_space_decides(rt: HostRuntime) -> Result<(), Fail> {
     let alloc = rt.alloc();
     let reply = challenged(alloc, &[TWO, STALE, MD5]).map_err(|_| "memory")?;
-    let offers = supported(alloc, false, &reply).map_err(|_| "memory")?;
     let rows: [(Scheme, &[u8], Taken); 4] = [
         (Scheme::Basic, b"simple", Taken::Basic),
         (Scheme::Basic, b"apps", Taken::Nothing),
@@ -126,8 +123,8 @@ fn the_first_challenge_of_a_space_decides(rt: HostRuntime) -> Result<(), Fail> {
     for (scheme, realm, expected) in rows {
         let realm = Bytes::from_slice(alloc, realm).map_err(|_| "memory")?;
         let space = Space::new(server(alloc)?, scheme, realm);
-        let decides = first_of_space(&server(alloc)?, &space, offers.as_slice());
-        assert_eq!(rt; seen(decides), expected);
+        let offer = deciding_offer(alloc, &server(alloc)?, &space, &reply).map_err(|_| "memory")?;
+        assert_eq!(rt; seen(offer.as_ref()), expected);
     }
     Ok(())
 }
@@ -144,7 +141,7 @@ fn an_offer_has_its_space(rt: HostRuntime) -> Result<(), Fail> {
 }
 
 #[test]
-fn tokens_and_next_nonces_are_read(rt: HostRuntime) -> Result<(), Fail> {
+fn the_first_next_nonce_is_read(rt: HostRuntime) -> Result<(), Fail> {
     let alloc = rt.alloc();
     let infos: [(&[&[u8]], Option<&[u8]>); 3] = [
         (
@@ -162,20 +159,6 @@ fn tokens_and_next_nonces_are_read(rt: HostRuntime) -> Result<(), Fail> {
         let values = fields(alloc, values).map_err(|_| "memory")?;
         let nonce = next_nonce(alloc, values.as_slice()).map_err(|_| "memory")?;
         assert_eq!(rt; nonce.as_ref().map(|nonce| nonce.as_slice()), expected);
-    }
-    let tokens: [(&[u8], Option<&[u8]>); 4] = [
-        (b"Negotiate Zm9v", Some(b"foo")),
-        (b"Negotiate Zm9vYg", None),
-        (b"Negotiate", None),
-        (b"Negotiate a=b", None),
-    ];
-    for (value, expected) in tokens {
-        let read = read_field(alloc, value).map_err(|_| "memory")?;
-        let Some(challenge) = read.challenges.get(0) else {
-            return Err("no challenge".into());
-        };
-        let token = peer_token(alloc, challenge).map_err(|_| "memory")?;
-        assert_eq!(rt; token.as_ref().map(|token| token.as_slice()), expected);
     }
     Ok(())
 }
