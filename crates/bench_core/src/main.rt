@@ -4,6 +4,7 @@
 
 mod challenges;
 mod draws;
+mod prompts;
 mod replies;
 mod respond;
 mod turns;
@@ -42,6 +43,8 @@ fn run<R: AllocGlobal + Threads + Wait + Sync>(rt: &R, kernel: Kernel, times: u3
         Kernel::ChallengesQuarter => challenges::run(alloc, 100, times),
         Kernel::Parameters => challenges::run_long(alloc, 10_000, times),
         Kernel::ParametersQuarter => challenges::run_long(alloc, 2_500, times),
+        Kernel::Prompts => prompts::run(alloc, 256, times),
+        Kernel::PromptsQuarter => prompts::run(alloc, 128, times),
         Kernel::Replies => replies::run(alloc, times),
         Kernel::Respond(algorithm) => respond::run(alloc, algorithm, times),
         Kernel::Turns(crew) => turns::run(rt, alloc, crew, times),

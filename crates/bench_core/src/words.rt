@@ -21,6 +21,10 @@ pub enum Kernel {
     Parameters,
     /// Readings of one challenge with 2,500 parameters.
     ParametersQuarter,
+    /// Prompts that are answered from a list of 65,536 answers.
+    Prompts,
+    /// Prompts that are answered from a list of 16,384 answers.
+    PromptsQuarter,
     /// Credentials of a Digest request with this hash.
     Respond(Algorithm),
     /// Readings of one reply of 60,000 bytes, fed whole.
@@ -38,6 +42,8 @@ pub fn kernel_of(name: &str) -> Option<Kernel> {
         "challenges-quarter" => Some(Kernel::ChallengesQuarter),
         "parameters" => Some(Kernel::Parameters),
         "parameters-quarter" => Some(Kernel::ParametersQuarter),
+        "prompts" => Some(Kernel::Prompts),
+        "prompts-quarter" => Some(Kernel::PromptsQuarter),
         "respond-md5" => Some(Kernel::Respond(Algorithm::Md5)),
         "respond-sha256" => Some(Kernel::Respond(Algorithm::Sha256)),
         "replies" => Some(Kernel::Replies),
