@@ -17,7 +17,8 @@ pub struct AuthBook {
     ledger: Ledger,
     index: BookIndex,
     ghost rows: { length index.spaces.items ≡ length ledger.names.spaces },
-    ghost stands: { ∥ StandsFor index ledger.roster ledger.names (reverse ledger.journal.entries) ∥₁ },
+    ghost stands: { ∥ StandsFor index ledger.roster ledger.names
+        (reverse ledger.journal.entries) ∥₁ },
 }
 
 impl AuthBook {
@@ -26,6 +27,7 @@ impl AuthBook {
     ghost use Rattle.auth_events.specs.Tables.{no_names, space_number, with_new_space};
     ghost use Rattle.auth_events.specs.Book as Book;
     ghost use Rattle.auth_events.specs.Ledgers.{told_of};
+    ghost use Rattle.auth_book.specs.Fits.{made};
     ghost use Rattle.auth_events.specs.Told.{MayNameSpace, is_pending, journal, names_told, told_space};
 
     /// A book with no entries and no names. It takes the journal and the prompts at once; the cache and
@@ -44,7 +46,9 @@ impl AuthBook {
     /// The index, which stands for the journal after every call.
     pub fn index(&self) -> &BookIndex
         ensures index { result.now ≡ self.now.index }
-        ensures stands { ∥ StandsFor result.now (⟦<AuthBook as Controller>⟧.roster self.now) (⟦<AuthBook as Controller>⟧.names self.now) (reverse (journal (⟦<AuthBook as Controller>⟧.told self.now))) ∥₁ }
+        ensures stands { ∥ StandsFor result.now (⟦<AuthBook as Controller>⟧.roster self.now)
+            (⟦<AuthBook as Controller>⟧.names self.now)
+            (reverse (journal (⟦<AuthBook as Controller>⟧.told self.now))) ∥₁ }
     {
         &self.index
     }
@@ -61,12 +65,16 @@ impl AuthBook {
 
     /// Answers the call. It takes no memory.
     fn answer_call(&mut self, caller: u32, request: u32, call: Call) -> Did
-        requires { IsTrue (Book.allowed self.old.ledger.roster self.old.ledger.names (reverse self.old.ledger.journal.entries) caller request call) }
-        ensures reply { result.reply ≡ Book.answer self.old.ledger.roster self.old.ledger.names (reverse self.old.ledger.journal.entries) request call }
-        ensures journal { self.new.ledger.journal.entries ≡ (if is_pending result.reply then self.old.ledger.journal.entries
-            else self.old.ledger.journal.entries ++ record { caller = caller; request = request; call = call; reply = result.reply } ∷ []) }
+        requires { IsTrue (Book.allowed self.old.ledger.roster self.old.ledger.names
+            (reverse self.old.ledger.journal.entries) caller request call) }
+        ensures reply { result.reply ≡ Book.answer self.old.ledger.roster self.old.ledger.names
+            (reverse self.old.ledger.journal.entries) request call }
+        ensures journal { self.new.ledger.journal.entries ≡ (if is_pending result.reply
+            then self.old.ledger.journal.entries
+            else self.old.ledger.journal.entries ++ made caller request call result.reply ∷ []) }
         ensures retired { result.retired ≡ (if is_pending result.reply then 0
-            else Book.retired self.old.ledger.names (record { caller = caller; request = request; call = call; reply = result.reply }) (reverse self.old.ledger.journal.entries)) }
+            else Book.retired self.old.ledger.names (made caller request call result.reply)
+            (reverse self.old.ledger.journal.entries)) }
         ensures roster { self.new.ledger.roster ≡ self.old.ledger.roster }
         ensures names { self.new.ledger.names ≡ self.old.ledger.names }
         ensures made { self.new.ledger.made ≡ self.old.ledger.made }
@@ -89,8 +97,13 @@ impl AuthBook {
     fn name_space(&mut self, caller: u32, space: &Space) -> Result<u32, NoMemory>
         requires may { MayNameSpace self.old.ledger.roster self.old.ledger.names space.now }
         requires new { space_number self.old.ledger.names space.now ≡ None }
-        ensures number { IfOk result (λ number. numbered self.new.ledger.names.spaces number ≡ Some space.now) }
-        ensures told { OnOk result (told_of self.new.ledger.names self.new.ledger.made.items self.new.ledger.journal.entries ≡ told_space caller self.old.ledger.names (told_of self.old.ledger.names self.old.ledger.made.items self.old.ledger.journal.entries) space.now) }
+        ensures number { IfOk result
+            (λ number. numbered self.new.ledger.names.spaces number ≡ Some space.now) }
+        ensures told { OnOk result
+            (told_of self.new.ledger.names self.new.ledger.made.items self.new.ledger.journal.entries
+            ≡ told_space caller self.old.ledger.names
+            (told_of self.old.ledger.names self.old.ledger.made.items self.old.ledger.journal.entries)
+            space.now) }
         ensures entries { self.new.ledger.journal ≡ self.old.ledger.journal }
         ensures roster { self.new.ledger.roster ≡ self.old.ledger.roster }
         ensures names { OnErr result (self.new.ledger.names ≡ self.old.ledger.names) }
@@ -116,17 +129,23 @@ impl Controller for AuthBook {
 
     ghost names = { λ book. book.ledger.names };
 
-    ghost legal = { λ book. legal book.ledger.roster book.ledger.names book.ledger.made.items book.ledger.journal.entries book.ledger.kept };
+    ghost legal = { λ book. legal book.ledger.roster book.ledger.names
+        book.ledger.made.items book.ledger.journal.entries book.ledger.kept };
 
-    ghost legal_throughout = { λ book. legal_throughout book.ledger.roster book.ledger.names book.ledger.made.items book.ledger.journal.entries book.ledger.kept };
+    ghost legal_throughout = { λ book. legal_throughout book.ledger.roster book.ledger.names
+        book.ledger.made.items book.ledger.journal.entries book.ledger.kept };
 
-    ghost no_draw = { λ book. no_draw book.ledger.roster book.ledger.names book.ledger.made.items book.ledger.journal.entries book.ledger.kept };
+    ghost no_draw = { λ book. no_draw book.ledger.roster book.ledger.names
+        book.ledger.made.items book.ledger.journal.entries book.ledger.kept };
 
-    ghost told_names = { λ book. told_names book.ledger.roster book.ledger.names book.ledger.made.items book.ledger.journal.entries book.ledger.kept };
+    ghost told_names = { λ book. told_names book.ledger.roster book.ledger.names
+        book.ledger.made.items book.ledger.journal.entries book.ledger.kept };
 
-    ghost are_names = { λ book. are_names book.ledger.roster book.ledger.names book.ledger.made.items book.ledger.journal.entries book.ledger.kept };
+    ghost are_names = { λ book. are_names book.ledger.roster book.ledger.names
+        book.ledger.made.items book.ledger.journal.entries book.ledger.kept };
 
-    ghost few = { λ book. few book.ledger.roster book.ledger.names book.ledger.made.items book.ledger.journal.entries book.ledger.kept };
+    ghost few = { λ book. few book.ledger.roster book.ledger.names
+        book.ledger.made.items book.ledger.journal.entries book.ledger.kept };
 
     fn call(&mut self, caller: u32, request: u32, call: Call) -> Did {
         self.answer_call(caller, request, call)

@@ -48,8 +48,10 @@ impl BookIndex {
         reply: BookReply,
     )
         requires cache { CacheFits call reply (entries_in self.old space) }
-        requires paths { PathsFit roster.now request call reply (notes_at (part_in self.old space)) }
-        ensures { self.new ≡ record self.old { partitions = parts_by_row roster.now names.now request call reply self.old.partitions (numbered self.old.spaces.items space) } }
+        requires paths { PathsFit roster.now request call reply
+            (notes_at (part_in self.old space)) }
+        ensures { self.new ≡ record self.old { partitions = parts_by_row roster.now names.now
+            request call reply self.old.partitions (numbered self.old.spaces.items space) } }
     {
         if let Some(row) = self.spaces.get(space) {
             self.partitions.tell(row.partition, roster, names, row.site, request, call, reply);
@@ -86,15 +88,22 @@ impl BookIndex {
     pub fn decide(&mut self, roster: &Roster, names: &Names, request: u32, call: Call) -> Did
         requires book { AreOfBook roster.now names.now }
         requires may { ∥ MayDecide self.old roster.now names.now request call ∥₁ }
-        ensures reply { (past : List Entry) (caller : ℕ) → Book.IsLegalPast roster.now names.now past → StandsFor self.old roster.now names.now past
+        ensures reply { (past : List Entry) (caller : ℕ)
+            → Book.IsLegalPast roster.now names.now past
+            → StandsFor self.old roster.now names.now past
             → IsTrue (Book.allowed roster.now names.now past caller request call)
             → result.reply ≡ Book.answer roster.now names.now past request call }
-        ensures retired { (past : List Entry) (caller : ℕ) → Book.IsLegalPast roster.now names.now past → StandsFor self.old roster.now names.now past
+        ensures retired { (past : List Entry) (caller : ℕ)
+            → Book.IsLegalPast roster.now names.now past
+            → StandsFor self.old roster.now names.now past
             → IsTrue (Book.allowed roster.now names.now past caller request call)
             → result.retired ≡ retired_by names.now past (made caller request call result.reply) }
-        ensures stands { (past : List Entry) (caller : ℕ) → Book.IsLegalPast roster.now names.now past → StandsFor self.old roster.now names.now past
+        ensures stands { (past : List Entry) (caller : ℕ)
+            → Book.IsLegalPast roster.now names.now past
+            → StandsFor self.old roster.now names.now past
             → IsTrue (Book.allowed roster.now names.now past caller request call)
-            → StandsFor self.new roster.now names.now (past_after past (made caller request call result.reply)) }
+            → StandsFor self.new roster.now names.now
+            (past_after past (made caller request call result.reply)) }
         ensures rows { length self.new.spaces.items ≡ length self.old.spaces.items }
     {
         let reply = self.reply(roster, names, request, call);

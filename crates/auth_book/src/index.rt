@@ -101,7 +101,8 @@ impl BookIndex {
         ensures record { OnOk result (IsTrue (is_some (part_of self.new.partitions partition.now))) }
         ensures err { OnErr result (self.new.prepared ≡ self.old.prepared) }
         ensures rows { self.new.spaces.items ≡ self.old.spaces.items }
-        ensures stands { (roster : Roster) (names : Tables) (past : List Entry) → StandsFor self.old roster names past → StandsFor self.new roster names past }
+        ensures stands { (roster : Roster) (names : Tables) (past : List Entry)
+            → StandsFor self.old roster names past → StandsFor self.new roster names past }
     {
         self.spaces.reserve(space as usize)?;
         self.prompts.add_space(space)?;
@@ -117,11 +118,14 @@ impl BookIndex {
     pub fn add_space(&mut self, names: &Names)
         requires count { length names.now.spaces ≡ length self.old.spaces.items + 1 }
         requires prepared { self.old.prepared ≡ length names.now.spaces }
-        requires record { IfSome (numbered names.now.spaces (length names.now.spaces)) (λ space. IsTrue (is_some (part_of self.old.partitions space.site.partition))) }
-        ensures stands { (roster : Roster) (before : Tables) (space : ProtectionSpace) (past : List Entry) → names.now ≡ with_space before space
+        requires record { IfSome (numbered names.now.spaces (length names.now.spaces))
+            (λ space. IsTrue (is_some (part_of self.old.partitions space.site.partition))) }
+        ensures stands { (roster : Roster) (before : Tables) (space : ProtectionSpace)
+            (past : List Entry) → names.now ≡ with_space before space
             → AreNames before → IsLegalPast roster before past → StandsFor self.old roster before past
             → StandsFor self.new roster names.now past }
-        ensures row { self.new.spaces.items ≡ self.old.spaces.items ++ space_row names.now self.old.partitions [] (length names.now.spaces) ∷ [] }
+        ensures row { self.new.spaces.items ≡ self.old.spaces.items
+            ++ space_row names.now self.old.partitions [] (length names.now.spaces) ∷ [] }
         ensures partitions { self.new.partitions ≡ self.old.partitions }
         ensures prompts { self.new.prompts ≡ self.old.prompts }
         ensures led { self.new.led ≡ self.old.led }

@@ -35,7 +35,8 @@ pub fn retires_as_the_book()
 
 /// An index that was told an entry stands for the history with that entry.
 pub fn stands_for_each_history()
-    ensures { (roster : Roster) (names : Tables) (past : List Entry) (entry : Entry) (index after : BookIndex)
+    ensures { (roster : Roster) (names : Tables) (past : List Entry) (entry : Entry)
+        (index after : BookIndex)
         → AreNames names → AreFew (length roster.requests) names
         → IsLegalPast roster names (entry ∷ past) → StandsFor index roster names past
         → IsTold roster names entry.request entry.call entry.reply index after
@@ -44,21 +45,28 @@ pub fn stands_for_each_history()
 
 /// Under a space more an index stands for the same history, once the space has its row.
 pub fn stands_under_more_names()
-    ensures { (roster : Roster) (names : Tables) (space : ProtectionSpace) (past : List Entry) (index after : BookIndex)
+    ensures { (roster : Roster) (names : Tables) (space : ProtectionSpace) (past : List Entry)
+        (index after : BookIndex)
         → AreNames names → IsLegalPast roster names past → StandsFor index roster names past
         → length index.spaces.items ≡ length names.spaces
-        → after.spaces.items ≡ index.spaces.items ++ space_row (with_space names space) index.partitions [] (length names.spaces + 1) ∷ []
-        → IsTrue (is_some (part_of index.partitions space.site.partition)) → after.partitions ≡ index.partitions → after.prompts ≡ index.prompts
+        → after.spaces.items ≡ index.spaces.items
+        ++ space_row (with_space names space) index.partitions [] (length names.spaces + 1) ∷ []
+        → IsTrue (is_some (part_of index.partitions space.site.partition))
+        → after.partitions ≡ index.partitions → after.prompts ≡ index.prompts
         → after.led ≡ index.led → after.requests ≡ index.requests → after.epochs ≡ index.epochs
         → StandsFor after roster (with_space names space) past }
 {}
 
 /// Under more terms or texts an index stands for the same history as it is.
 pub fn stands_under_terms_and_texts()
-    ensures terms { (roster : Roster) (names : Tables) (name : TermsName) (past : List Entry) (index : BookIndex)
-        → AreNames names → AreFew (length roster.requests) names → IsLegalPast roster names past → StandsFor index roster names past
+    ensures terms { (roster : Roster) (names : Tables) (name : TermsName) (past : List Entry)
+        (index : BookIndex)
+        → AreNames names → AreFew (length roster.requests) names
+        → IsLegalPast roster names past → StandsFor index roster names past
         → StandsFor index roster (with_terms names name) past }
-    ensures texts { (roster : Roster) (names : Tables) (text : Login) (past : List Entry) (index : BookIndex)
-        → AreNames names → AreFew (length roster.requests) names → IsLegalPast roster names past → StandsFor index roster names past
+    ensures texts { (roster : Roster) (names : Tables) (text : Login) (past : List Entry)
+        (index : BookIndex)
+        → AreNames names → AreFew (length roster.requests) names
+        → IsLegalPast roster names past → StandsFor index roster names past
         → StandsFor index roster (with_text names text) past }
 {}

@@ -165,8 +165,10 @@ impl PartRows {
         reply: BookReply,
     )
         requires cache { CacheFits call reply (entries_at (numbered self.old number)) }
-        requires paths { PathsFit roster.now request call reply (notes_at (numbered self.old number)) }
-        ensures { self.new ≡ parts_told self.old number (part_told roster.now names.now site request call reply) }
+        requires paths { PathsFit roster.now request call reply
+            (notes_at (numbered self.old number)) }
+        ensures { self.new ≡ parts_told self.old number
+            (part_told roster.now names.now site request call reply) }
     {
         if number == 0 || self.rows.len() < number as usize {
             return;

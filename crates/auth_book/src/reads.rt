@@ -222,7 +222,8 @@ impl BookIndex {
 
     /// Whether the URL's identity may be given.
     fn may_use_url(&self, roster: &Roster, names: &Names, request: u32, space: u32) -> bool
-        ensures { result ≡ (Book.is_server (Book.target_of names.now space) && Book.has_url_identity roster.now request && not (Replies.url_in self.now request)) }
+        ensures { result ≡ (Book.is_server (Book.target_of names.now space)
+            && Book.has_url_identity roster.now request && not (Replies.url_in self.now request)) }
     {
         matches!(target_of(names, space), Target::Server)
             && has_url_identity(roster, request)
@@ -231,7 +232,9 @@ impl BookIndex {
 
     /// Whether the default identity may be given.
     fn may_use_default(&self, roster: &Roster, names: &Names, request: u32, space: u32) -> bool
-        ensures { result ≡ (Book.scheme_is names.now Book.is_negotiate space && Book.is_allowed_origin roster.now names.now space && not (Replies.default_in self.now request (Book.target_of names.now space))) }
+        ensures { result ≡ (Book.scheme_is names.now Book.is_negotiate space
+            && Book.is_allowed_origin roster.now names.now space
+            && not (Replies.default_in self.now request (Book.target_of names.now space))) }
     {
         is_negotiate(names, space)
             && is_allowed_origin(roster, names, space)

@@ -48,7 +48,8 @@ fn same_bytes(a: &[u8], b: &[u8]) -> bool
 
 /// Whether the site is the one of these parts.
 fn is_site(site: &Site, partition: &Partition, target: Target, origin: &Origin) -> bool
-    ensures { result ≡ same_site site.now (record { partition = partition.now; target = target; origin = origin.now }) }
+    ensures { result ≡ same_site site.now
+        (record { partition = partition.now; target = target; origin = origin.now }) }
 {
     same_bytes(site.partition.name(), partition.name())
         && same_target(site.target, target)
@@ -61,7 +62,8 @@ fn position_of_parts(
     target: Target,
     origin: &Origin,
 ) -> Option<usize>
-    ensures place { result ≡ position_from (λ named. same_site named.site (record { partition = partition.now; target = target; origin = origin.now })) 0 spaces.now }
+    ensures place { result ≡ position_from (λ named. same_site named.site
+        (record { partition = partition.now; target = target; origin = origin.now })) 0 spaces.now }
     ensures within { IfSome result (λ at. at < length spaces.now) }
 {
     spaces
@@ -71,7 +73,8 @@ fn position_of_parts(
 
 /// The number of the site of these parts, or 0.
 fn number_of_parts(names: &Names, partition: &Partition, target: Target, origin: &Origin) -> u32
-    ensures { result ≡ site_number names.now (record { partition = partition.now; target = target; origin = origin.now }) }
+    ensures { result ≡ site_number names.now
+        (record { partition = partition.now; target = target; origin = origin.now }) }
 {
     match position_of_parts(names.spaces(), partition, target, origin) {
         Some(at) => at as u32 + 1,

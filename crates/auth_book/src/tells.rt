@@ -88,7 +88,8 @@ fn space_selected(call: Call) -> u32
 /// The cache gives the space other terms, and puts it last.
 fn use_again(cache: &mut AuthCache, space: u32, terms: u32)
     requires { IsTrue (is_some (held_in cache.old.entries space)) }
-    ensures { cache.new ≡ record cache.old { entries = touched space (with_terms space terms cache.old.entries) } }
+    ensures { cache.new ≡ record cache.old
+        { entries = touched space (with_terms space terms cache.old.entries) } }
 {
     cache.set_terms(space, terms);
     cache.touch(space);
@@ -147,7 +148,8 @@ pub fn tell_paths(
 )
     requires room { paths.old.spaces ≡ 32 }
     requires fits { PathsFit roster.now request call reply paths.old.notes }
-    ensures { paths.new ≡ record paths.old { notes = notes_after roster.now names.now (λ _. site) request call reply paths.old.notes } }
+    ensures { paths.new ≡ record paths.old { notes = notes_after roster.now names.now (λ _. site)
+        request call reply paths.old.notes } }
 {
     match reply {
         BookReply::Noted => {
@@ -175,7 +177,8 @@ pub fn tell_paths(
 
 pub fn tell_prompts(prompts: &mut PromptQueue, request: u32, call: Call, reply: BookReply)
     requires { PromptsFit call reply prompts.old }
-    ensures { prompts.new ≡ record prompts.old { prompts = prompts_after request call reply prompts.old.prompts } }
+    ensures { prompts.new ≡ record prompts.old
+        { prompts = prompts_after request call reply prompts.old.prompts } }
 {
     match call {
         Call::Select { space, .. } => {
@@ -258,7 +261,8 @@ pub fn tell_request(
     call: Call,
     reply: BookReply,
 )
-    ensures { rows.new ≡ record rows.old { items = Steps.requests_after names.now request call reply rows.old.items } }
+    ensures { rows.new ≡ record rows.old
+        { items = Steps.requests_after names.now request call reply rows.old.items } }
 {
     if let Some(row) = rows.get(request) {
         rows.set(request, row_told(names, call, reply, row));
