@@ -1,0 +1,124 @@
+-- A challenge of a target, by what it decides on what is held for it.
+use Rattle.std.proofs.Common.{◌≡◌, ◌==◌, ℕ, ◌+◌, Bool, true, false, ◌&&◌, nat_le, List, ◌∷◌, Option, Some, None, refl, sym, if◌then◌else◌, IsTrue, IfSome, subst, is_some, is_none}
+use Rattle.std.proofs.lemmas.Bool.{false≢true}
+use Rattle.spaces.specs.declared.site.Target.{Target}
+use Rattle.spaces.specs.declared.site.Target.TheVariants.{Server, Proxy, Socks}
+use Rattle.spaces.specs.declared.terms.Terms.{Terms}
+use Rattle.wire_head.specs.declared.reply.Reply.{Reply}
+use Rattle.auth_runs.specs.declared.event.Event.{Event}
+use Rattle.auth_runs.specs.declared.event.Event.TheVariants.{Replied}
+use Rattle.auth_runs.specs.declared.event.Outcome.TheVariants.{Refused}
+use Rattle.auth_runs.specs.declared.event.Why.TheVariants.{Rounds}
+use Rattle.trace_rule.specs.Settings.{Setting, is_proxied}
+use Rattle.trace_rule.specs.Challenges.{Offer, challenged, challenges_target}
+use Rattle.trace_rule.specs.Holding.{Held, Decision, deciding}
+use Rattle.trace_rule.specs.Holding.Decision.{Offering}
+use Rattle.trace_rule.specs.Moves.{renewed, rejects}
+use Rattle.trace_rule.specs.Traces.{can_be}
+use Rattle.request_machine.specs.declared.holding.Holding.{Holding}
+use Rattle.request_machine.specs.declared.stage.Stage.TheVariants.{Reject as Rejecting, Read, Choose, Close}
+use Rattle.request_machine.specs.Kept.{Kept, Ties, IsHeld, held_kept}
+use Rattle.request_machine.specs.Changed.{holding}
+use Rattle.request_machine.specs.Chosen.{IsUndecided, IsDecided, IsLast, is_renewal}
+use Rattle.request_machine.specs.Told.{held_rejected, held_last, unless_it}
+use Rattle.request_machine.proofs.Challenged.{challenge_ties, challenges_it, held_elsewhere, held_challenged, kept_decided, nothing_held, to_choose, to_reject, to_rounds}
+
+-- no reply challenges a SOCKS proxy
+no_socks : (s : Setting) (reply : Reply) → challenged s reply ≡ Some Socks → ⊥
+no_socks s reply is = at (reply.code == 401) (reply.code == 407 && is_proxied s) is
+  where
+    at : (a b : Bool) → (if a then Some Server else (if b then Some Proxy else None)) ≡ Some Socks → ⊥
+    at true b e = absurd (cc)
+    at false true e = absurd (cc)
+    at false false e = absurd (cc)
+
+undecided_held : (s : Setting) (past : List Event) (link : ℕ) (reply : Reply) (t : Target) (h : Option Holding) → challenges_target s reply t ≡ true → IfSome h (λ o. deciding s reply t (held_kept o) ≡ None)
+    → IsHeld s past t h → IsHeld s (Replied link reply ∷ past) t None
+undecided_held s past link reply t None met undecided is = nothing_held s past link reply t is
+undecided_held s past link reply t (Some h) met undecided is = held_challenged s past link reply t h None met undecided is
+
+-- nothing decides: what was held is dropped, and a challenge is chosen
+pub undecided_ties : (s : Setting) (m : Kept) (link : ℕ) (reply : Reply) (t : Target) → m.stage ≡ Read link → IsTrue (can_be reply) → nat_le 17 (m.rounds + 1) ≡ false → IsUndecided s m reply t → Ties s m
+    → Ties s (record m { past = Replied link reply ∷ m.past; stage = Choose; proxy = held_rejected t Proxy m.proxy; server = held_rejected t Server m.server; rounds = m.rounds + 1; code = reply.code })
+undecided_ties s m link reply Proxy same may few is t =
+    challenge_ties s m link reply Proxy Choose None m.server same is.target t
+    (undecided_held s m.past link reply Proxy m.proxy (challenges_it s reply Proxy Proxy is.target) is.undecided t.proxy) (held_elsewhere s m.past link reply Proxy Server m.server is.target refl t.server)
+    (to_choose s m link reply Proxy m.proxy same is.target may t.proxy is.undecided few t)
+undecided_ties s m link reply Server same may few is t =
+    challenge_ties s m link reply Server Choose m.proxy None same is.target t
+    (held_elsewhere s m.past link reply Server Proxy m.proxy is.target refl t.proxy) (undecided_held s m.past link reply Server m.server (challenges_it s reply Server Server is.target) is.undecided t.server)
+    (to_choose s m link reply Server m.server same is.target may t.server is.undecided few t)
+undecided_ties s m link reply Socks same may few is t = absurd (no_socks s reply is.target)
+
+-- a challenge that brings no terms to renew rejects what is held
+not_renewed : (s : Setting) (h : Held) (stale : Bool) (terms : Option Terms) → (stale && is_some terms) ≡ false → renewed s h stale terms ≡ rejects h
+not_renewed s h true None e = refl
+not_renewed s h true (Some terms) e = absurd (false≢true (sym e))
+not_renewed s h false None e = refl
+not_renewed s h false (Some terms) e = refl
+
+decided_held : (s : Setting) (past : List Event) (link : ℕ) (reply : Reply) (t : Target) (o : Option Holding) (h : Holding) (offered : Offer) → challenges_target s reply t ≡ true → o ≡ Some h
+    → deciding s reply t (held_kept h) ≡ Some (Offering offered) → IsHeld s past t o → IsHeld s (Replied link reply ∷ past) t o
+decided_held s past link reply t o h offered met same decides is =
+    subst (λ x. IsHeld s (Replied link reply ∷ past) t x) (sym same) (held_challenged s past link reply t h (Some (Offering offered)) met decides (subst (λ x. IsHeld s past t x) same is))
+
+pub rejects_ties : (s : Setting) (m : Kept) (link : ℕ) (reply : Reply) (t : Target) (h : Holding) (offered : Offer) → m.stage ≡ Read link → IsTrue (can_be reply) → nat_le 17 (m.rounds + 1) ≡ false
+    → IsDecided s m reply t h offered → is_renewal offered ≡ false → Ties s m
+    → Ties s (record m { past = Replied link reply ∷ m.past; stage = Rejecting t h.gift; rounds = m.rounds + 1; code = reply.code })
+rejects_ties s m link reply Proxy h offered same may few is fresh t =
+    challenge_ties s m link reply Proxy (Rejecting Proxy h.gift) m.proxy m.server same is.target t
+    (decided_held s m.past link reply Proxy m.proxy h offered (challenges_it s reply Proxy Proxy is.target) is.held is.decides t.proxy) (held_elsewhere s m.past link reply Proxy Server m.server is.target refl t.server)
+    (to_reject s m link reply Proxy h offered same is.target may (subst (λ x. IsHeld s m.past Proxy x) is.held t.proxy) is.decides (not_renewed s (held_kept h) offered.stale offered.terms fresh) few t)
+rejects_ties s m link reply Server h offered same may few is fresh t =
+    challenge_ties s m link reply Server (Rejecting Server h.gift) m.proxy m.server same is.target t
+    (held_elsewhere s m.past link reply Server Proxy m.proxy is.target refl t.proxy) (decided_held s m.past link reply Server m.server h offered (challenges_it s reply Server Server is.target) is.held is.decides t.server)
+    (to_reject s m link reply Server h offered same is.target may (subst (λ x. IsHeld s m.past Server x) is.held t.server) is.decides (not_renewed s (held_kept h) offered.stale offered.terms fresh) few t)
+rejects_ties s m link reply Socks h offered same may few is fresh t = absurd (no_socks s reply is.target)
+
+-- the seventeenth round
+last_held : (s : Setting) (past : List Event) (link : ℕ) (reply : Reply) (t : Target) (h : Option Holding) (kept : Bool) → challenges_target s reply t ≡ true
+    → IfSome h (λ o. is_some (deciding s reply t (held_kept o)) ≡ kept) → IsHeld s past t h → IsHeld s (Replied link reply ∷ past) t (if kept then h else None)
+last_held s past link reply t None true met decides is = nothing_held s past link reply t is
+last_held s past link reply t None false met decides is = nothing_held s past link reply t is
+last_held s past link reply t (Some h) kept met decides is =
+    at (deciding s reply t (held_kept h)) kept decides (held_challenged s past link reply t h (deciding s reply t (held_kept h)) met refl is)
+  where
+    at : (d : Option Decision) (kept : Bool) → is_some d ≡ kept → IsHeld s (Replied link reply ∷ past) t (kept_decided d h) → IsHeld s (Replied link reply ∷ past) t (if kept then Some h else None)
+    at None true e it = absurd (false≢true e)
+    at None false e it = it
+    at (Some d) true e it = it
+    at (Some d) false e it = absurd (false≢true (sym e))
+
+pub last_ties : (s : Setting) (m : Kept) (link : ℕ) (reply : Reply) (t : Target) (kept : Bool) → m.stage ≡ Read link → IsTrue (can_be reply) → nat_le 17 (m.rounds + 1) ≡ true → IsLast s m reply t kept → Ties s m
+    → Ties s (record m {
+      past = Replied link reply ∷ m.past;
+      proxy = held_last kept t Proxy m.proxy;
+      server = held_last kept t Server m.server;
+      rounds = m.rounds + 1;
+      code = reply.code;
+      stage = Close (record { outcome = Refused reply.code Rounds; proxy = unless_it t Proxy m.noted_proxy; server = unless_it t Server m.noted_server });
+    })
+last_ties s m link reply Proxy kept same may last is t =
+    challenge_ties s m link reply Proxy (Close (record { outcome = Refused reply.code Rounds; proxy = None; server = m.noted_server })) (if kept then m.proxy else None) m.server same is.target t
+    (last_held s m.past link reply Proxy m.proxy kept (challenges_it s reply Proxy Proxy is.target) is.decides t.proxy) (held_elsewhere s m.past link reply Proxy Server m.server is.target refl t.server)
+    (to_rounds s m link reply Proxy m.proxy same is.target may t.proxy last t)
+last_ties s m link reply Server kept same may last is t =
+    challenge_ties s m link reply Server (Close (record { outcome = Refused reply.code Rounds; proxy = m.noted_proxy; server = None })) m.proxy (if kept then m.server else None) same is.target t
+    (held_elsewhere s m.past link reply Server Proxy m.proxy is.target refl t.proxy) (last_held s m.past link reply Server m.server kept (challenges_it s reply Server Server is.target) is.decides t.server)
+    (to_rounds s m link reply Server m.server same is.target may t.server last t)
+last_ties s m link reply Socks kept same may last is t = absurd (no_socks s reply is.target)
+
+-- where nothing is held nothing decides
+pub free_undecided : (s : Setting) (m : Kept) (reply : Reply) (t : Target) → is_none (holding m t) ≡ true → challenged s reply ≡ Some t → IsUndecided s m reply t
+free_undecided s m reply t free is = record { target = is; undecided = at (holding m t) free }
+  where
+    at : (o : Option Holding) → is_none o ≡ true → IfSome o (λ h. deciding s reply t (held_kept h) ≡ None)
+    at None e = tt
+    at (Some h) e = absurd (false≢true e)
+
+pub free_last : (s : Setting) (m : Kept) (reply : Reply) (t : Target) → is_none (holding m t) ≡ true → challenged s reply ≡ Some t → IsLast s m reply t false
+free_last s m reply t free is = record { target = is; decides = at (holding m t) free }
+  where
+    at : (o : Option Holding) → is_none o ≡ true → IfSome o (λ h. is_some (deciding s reply t (held_kept h)) ≡ false)
+    at None e = tt
+    at (Some h) e = absurd (false≢true e)

@@ -1,0 +1,139 @@
+-- Heads, where Basic and Digest identities are held alone.
+use Rattle.std.proofs.Common.{◌≡◌, ℕ, ◌+◌, Bool, true, false, ◌||◌, List, ◌∷◌, Option, Some, None, refl, sym, ap, ◌∙◌, zero-add, if◌then◌else◌, IfSome, IsSome, subst, option_map, option_and_then, is_some, unwrap_or}
+use Rattle.std.proofs.lemmas.Bool.{false≢true}
+use Rattle.std.specs.List.{list_any}
+use Rattle.auth_text.specs.Login.{Login}
+use Rattle.spaces.specs.declared.roster.Request.{Request}
+use Rattle.spaces.specs.declared.site.Target.{Target}
+use Rattle.spaces.specs.declared.site.Target.TheVariants.{Server, Proxy}
+use Rattle.spaces.specs.declared.space.Scheme.TheVariants.{Digest, Negotiate}
+use Rattle.spaces.specs.RequestTargets.{request_target}
+use Rattle.auth_events.specs.declared.names.TermsName.{TermsName}
+use Rattle.digest_handler.specs.ClientNonces.{client_nonce}
+use Rattle.digest_handler.specs.Credentials.{digest_credentials}
+use Rattle.wire_head.specs.RequestHeads.{head}
+use Rattle.auth_runs.specs.declared.event.Event.{Event}
+use Rattle.auth_runs.specs.declared.event.Event.TheVariants.{Headed}
+use Rattle.trace_rule.specs.Settings.{Setting, scheme_is, or_else}
+use Rattle.trace_rule.specs.Holding.{Held, held, heads, context_of, unsent}
+use Rattle.trace_rule.specs.Holding.{Context as HeldContext}
+use Rattle.trace_rule.specs.Heads.{head_text, field, field_of, digest_field, credentials, negotiate_credentials, drawn, keeps}
+use Rattle.trace_rule.specs.Moves.{rounds}
+use Rattle.trace_rule.specs.Closings.{want, closings_made}
+use Rattle.trace_rule.specs.Moves.Want.{Draws, Writes}
+use Rattle.trace_rule.specs.Traces.{is_end}
+use Rattle.request_machine.specs.declared.holding.Holding.{Holding}
+use Rattle.request_machine.specs.declared.holding.NamedTerms.{NamedTerms}
+use Rattle.request_machine.specs.declared.stage.Stage.TheVariants.{Go, Read}
+use Rattle.request_machine.specs.Kept.{Kept, Ties, IsOpen, IsHeld, held_kept, terms_kept, is_after_end}
+use Rattle.request_machine.specs.Told.{IsReady, scheme_told, gift_told}
+use Rattle.request_machine.specs.Heads.{nonce_next, digest_told, field_told, head_told}
+use Rattle.request_machine.proofs.Going.{go_told, draw_of, told_scheme, no_context}
+use Rattle.request_machine.proofs.Sending.{wants, next_past, ready_headed, carried_told}
+use Rattle.request_machine.proofs.Prompts.{open_behind}
+
+-- NO COUNT IS DRAWN ANY MORE
+
+no_draw : (count : Option ℕ) (h : Option Holding) (t : Target) → nonce_next count h ≡ None → draw_of count h t ≡ None
+no_draw None h t none = ap (option_map (Draws t)) none
+no_draw (Some n) h t none = refl
+
+pub writes_next : (m : Kept) (text : List ℕ) → m.is_dialed ≡ true → nonce_next m.drawn_proxy m.proxy ≡ None → nonce_next m.drawn_server m.server ≡ None → go_told m text ≡ Writes m.links text
+writes_next m text dialed proxy server = rw (dialed, no_draw m.drawn_proxy m.proxy Proxy proxy, no_draw m.drawn_server m.server Server server) refl
+
+-- THE FIELDS
+
+identity_held : (o : Option Login) → (e : Option Login) → IfSome o (λ login. e ≡ Some login) → IsSome o → e ≡ o
+identity_held None e known some = absurd (false≢true some)
+identity_held (Some login) e known some = known
+
+abbrev field_by : Setting → List Event → Target → Held → Bool → Bool → Option Login → Option TermsName → Option (List ℕ)
+field_by s past t h negotiate digest login name =
+    if negotiate then option_map negotiate_credentials (option_and_then unsent h.context)
+    else (if digest then option_and_then (λ (n : TermsName). option_map (digest_field s past t n.terms) login) name else option_map credentials login)
+
+-- the same credentials, by what was told
+digest_same : (s : Setting) (m : Kept) (request : Request) (t : Target) (count : Option ℕ) (named : NamedTerms) (login : Login) → s.request ≡ request → Ties s m → drawn m.past t ≡ count
+    → digest_field s m.past t named.terms login ≡ digest_told m request t count login named
+digest_same s m request t count named login same ties counted =
+    ap (λ (r : Request). digest_credentials named.terms login r.method (request_target r.place (is_some r.proxy)) (unwrap_or (drawn m.past t) 0) (client_nonce s.seed s.number (heads m.past + 1) t)) same
+    ∙ ap (λ b. digest_credentials named.terms login request.method (request_target request.place b) (unwrap_or (drawn m.past t) 0) (client_nonce s.seed s.number (heads m.past + 1) t)) (ap (λ (r : Request). is_some r.proxy) (sym same) ∙ ties.route)
+    ∙ ap (λ (c : Option ℕ). digest_credentials named.terms login request.method (request_target request.place m.is_proxied) (unwrap_or c 0) (client_nonce s.seed s.number (heads m.past + 1) t)) counted
+    ∙ ap (λ x. digest_credentials named.terms login request.method (request_target request.place m.is_proxied) (unwrap_or count 0) (client_nonce x s.number (heads m.past + 1) t)) ties.same_seed
+    ∙ ap (λ x. digest_credentials named.terms login request.method (request_target request.place m.is_proxied) (unwrap_or count 0) (client_nonce m.seed x (heads m.past + 1) t)) ties.same_number
+    ∙ ap (λ x. digest_credentials named.terms login request.method (request_target request.place m.is_proxied) (unwrap_or count 0) (client_nonce m.seed m.number (x + 1) t)) ties.heads
+
+pub field_is_told : (s : Setting) (m : Kept) (request : Request) (t : Target) (count : Option ℕ) (h : Option Holding) → s.request ≡ request → Ties s m → IsHeld s m.past t h → IfSome h IsReady → drawn m.past t ≡ count
+    → field s m.past t ≡ option_and_then (field_told m request t count) h
+field_is_told s m request t count None same ties is ready counted = ap (option_and_then (field_of s m.past t)) is.is_held
+field_is_told s m request t count (Some h) same ties is ready counted =
+    ap (option_and_then (field_of s m.past t)) is.is_held
+    ∙ ap (λ b. field_by s m.past t (held_kept h) b (scheme_is s h.gift.space Digest) (s.identity_of h.gift) (s.terms_of h.terms)) (told_scheme s h.gift.space Negotiate h.space is.is_known.space ready.space ∙ ready.plain)
+    ∙ ap (λ b. field_by s m.past t (held_kept h) false b (s.identity_of h.gift) (s.terms_of h.terms)) (told_scheme s h.gift.space Digest h.space is.is_known.space ready.space)
+    ∙ ap (λ login. field_by s m.past t (held_kept h) false (scheme_told h.space Digest) login (s.terms_of h.terms)) (identity_held h.identity (s.identity_of h.gift) is.is_known.identity ready.identity)
+    ∙ at (scheme_told h.space Digest) h.identity h.named is.is_known.named ready.named
+  where
+    at : (digest : Bool) (login : Option Login) (named : Option NamedTerms) → IfSome named (λ n. s.terms_of h.terms ≡ Some (terms_kept h n)) → digest ≡ is_some named
+        → field_by s m.past t (held_kept h) false digest login (s.terms_of h.terms)
+        ≡ (if digest then option_and_then (λ n. option_map (λ l. digest_told m request t count l n) login) named else option_map credentials login)
+    at false login named known is = refl
+    at true login None known is = absurd (false≢true (sym is))
+    at true None (Some named) known is = ap (λ o. option_and_then (λ (n : TermsName). option_map (digest_field s m.past t n.terms) None) o) known
+    at true (Some login) (Some named) known is =
+        ap (λ o. option_and_then (λ (n : TermsName). option_map (digest_field s m.past t n.terms) (Some login)) o) known
+        ∙ ap Some (digest_same s m request t count named login same ties counted)
+
+-- the bytes of the next head
+pub head_is_told : (s : Setting) (m : Kept) (request : Request) → s.request ≡ request → IfSome m.proxy IsReady → IfSome m.server IsReady → Ties s m → head_text s m.past ≡ head_told m request
+head_is_told s m request same proxy server t =
+    let free_proxy : context_of (held s m.past Proxy) ≡ None = no_context s m.past Proxy m.proxy t.proxy proxy in
+    let free_server : context_of (held s m.past Server) ≡ None = no_context s m.past Server m.server t.server server in
+    let closes : keeps s m.past ≡ false =
+    ap (λ c. is_some (or_else (option_and_then (λ (x : HeldContext). x.link) c) (option_and_then (λ (x : HeldContext). x.link) (context_of (held s m.past Server))))
+    || is_some (or_else (option_and_then unsent c) (option_and_then unsent (context_of (held s m.past Server))))) free_proxy
+    ∙ ap (λ c. is_some (option_and_then (λ (x : HeldContext). x.link) c) || is_some (option_and_then unsent c)) free_server in
+    ap (λ (r : Request). head r.method (request_target r.place (is_some r.proxy)) r.place.origin (field s m.past Proxy) (field s m.past Server) (keeps s m.past)) same
+    ∙ ap (λ b. head request.method (request_target request.place b) request.place.origin (field s m.past Proxy) (field s m.past Server) (keeps s m.past)) (ap (λ (r : Request). is_some r.proxy) (sym same) ∙ t.route)
+    ∙ ap (λ f. head request.method (request_target request.place m.is_proxied) request.place.origin f (field s m.past Server) (keeps s m.past)) (field_is_told s m request Proxy m.drawn_proxy m.proxy same t t.proxy proxy t.drawn_proxy)
+    ∙ ap (λ f. head request.method (request_target request.place m.is_proxied) request.place.origin (option_and_then (field_told m request Proxy m.drawn_proxy) m.proxy) f (keeps s m.past)) (field_is_told s m request Server m.drawn_server m.server same t t.server server t.drawn_server)
+    ∙ ap (λ b. head request.method (request_target request.place m.is_proxied) request.place.origin (option_and_then (field_told m request Proxy m.drawn_proxy) m.proxy) (option_and_then (field_told m request Server m.drawn_server) m.server) b) closes
+
+pub headed_ties : (s : Setting) (m : Kept) (request : Request) (bytes : List ℕ) → m.stage ≡ Go → m.is_dialed ≡ true → IfSome m.proxy IsReady → IfSome m.server IsReady
+    → nonce_next m.drawn_proxy m.proxy ≡ None → nonce_next m.drawn_server m.server ≡ None → bytes ≡ head_told m request → s.request ≡ request → Ties s m
+    → Ties s (record m {
+      past = Headed m.links bytes ∷ m.past;
+      stage = Read m.links;
+      heads = m.heads + 1;
+      is_dialed = false;
+      drawn_proxy = None;
+      drawn_server = None;
+      noted_proxy = option_and_then gift_told m.proxy;
+      noted_server = option_and_then gift_told m.server;
+    })
+headed_ties s m request bytes same dialed proxy server undrawn_proxy undrawn_server is_head same_request t =
+    let no_end : list_any is_end m.past ≡ false = t.ended ∙ ap is_after_end same in
+    let text : head_text s m.past ≡ bytes = head_is_told s m request same_request proxy server t ∙ sym is_head in
+    let wanted : want s m.past ≡ Writes m.links bytes = wants s m (Writes m.links (head_text s m.past)) same t proxy server (writes_next m (head_text s m.past) dialed undrawn_proxy undrawn_server) ∙ ap (Writes m.links) text in
+    record {
+      same_number = t.same_number;
+      same_seed = t.same_seed;
+      route = t.route;
+      stage = (next_past s m (Writes m.links bytes) (Headed m.links bytes) same t wanted refl, refl);
+      proxy = ready_headed s m.past Proxy m.links bytes m.proxy t.proxy proxy;
+      server = ready_headed s m.past Server m.links bytes m.server t.server server;
+      drawn_proxy = refl;
+      drawn_server = refl;
+      noted_proxy = carried_told s m.past Proxy m.links bytes m.proxy t.proxy proxy;
+      noted_server = carried_told s m.past Server m.links bytes m.server t.server server;
+      links = t.links;
+      heads = ap (λ n. n + 1) t.heads;
+      code = t.code;
+      rounds = zero-add (rounds s m.past) ∙ t.rounds;
+      is_dialed = refl;
+      has_lost = t.has_lost;
+      has_none = t.has_none;
+      ended = no_end;
+      may_stop = rw no_end refl;
+      prompt = open_behind m.past (Headed m.links bytes) (λ p. refl) ∙ t.prompt;
+      open_still = subst (λ stage. IsOpen stage (closings_made s m.past)) same t.open_still;
+    }

@@ -1,0 +1,464 @@
+-- Prompts: one that the request leads, up to its answer or its loss, and one that it follows.
+use Rattle.std.proofs.Common.{◌≡◌, ℕ, ◌+◌, ◌==◌, Bool, true, false, not, ◌&&◌, List, [], ◌∷◌, ◌++◌, drop, map, Option, Some, None, refl, sym, ap, ◌∙◌, zero-add, if◌then◌else◌, IsTrue, subst, option_map, unwrap_or, is_some, arith}
+use Rattle.std.proofs.lemmas.Bool.{false≢true}
+use Rattle.std.specs.List.{list_any}
+use Rattle.spaces.specs.declared.site.Target.{Target}
+use Rattle.spaces.specs.declared.site.Target.TheVariants.{Server, Proxy}
+use Rattle.spaces.specs.ProtectionSpaces.{ProtectionSpace}
+use Rattle.spaces.specs.Sites.{same_target}
+use Rattle.auth_events.specs.declared.journal.Gift.{Gift}
+use Rattle.auth_events.specs.declared.journal.Loss.{Loss}
+use Rattle.auth_events.specs.declared.journal.Loss.TheVariants.{Fault, Memory}
+use Rattle.auth_events.specs.declared.journal.Call.{Call}
+use Rattle.auth_events.specs.declared.journal.Call.TheVariants.{Select, Answer, Lose, Take, End as CallEnd}
+use Rattle.auth_events.specs.declared.journal.BookReply.{BookReply}
+use Rattle.auth_events.specs.declared.journal.BookReply.TheVariants.{Lead, Follow, Given, Gave, Cancelled, Lost}
+use Rattle.wire_head.specs.declared.reply.Reply.{Reply}
+use Rattle.link_trait.specs.declared.prompts.Ask.{Ask as Asked}
+use Rattle.link_trait.specs.declared.prompts.AskSeen.{AskSeen}
+use Rattle.link_trait.specs.declared.prompts.AskSeen.TheVariants.{Given as AskGiven, Cancel, Failed as AskFailed, NoMemory as AskNoMemory}
+use Rattle.auth_runs.specs.declared.event.Event.{Event}
+use Rattle.auth_runs.specs.declared.event.Event.TheVariants.{Called, AskedFor}
+use Rattle.auth_runs.specs.declared.event.Outcome.TheVariants.{Refused}
+use Rattle.auth_runs.specs.declared.event.Why.{Why}
+use Rattle.auth_runs.specs.declared.event.Why.TheVariants.{Cancelled as ByCancel}
+use Rattle.trace_rule.specs.Settings.{Setting, is_proxied, target_is}
+use Rattle.trace_rule.specs.Challenges.{challenges_target}
+use Rattle.trace_rule.specs.Holding.{held, if_target, gift_held, carried, code, last_reply, terms_followed}
+use Rattle.trace_rule.specs.Moves.{move, rounds, lost, terms_led}
+use Rattle.trace_rule.specs.Moves.Want.{Calls, Answers}
+use Rattle.trace_rule.specs.Moves.Move.{Closes}
+use Rattle.trace_rule.specs.Closings.{closings, closings_made, is_challenged, note_for}
+use Rattle.trace_rule.specs.Traces.{IsPast, Follows, suits, may_hold, same_loss, settles, is_end, is_follow, prompt_open, space_prompted}
+use Rattle.trace_rule.specs.Telling.{ask_of, prompted, is_answered}
+use Rattle.auth_text.specs.Login.{Login}
+use Rattle.link_trait.specs.Told.{grown}
+use Rattle.std.proofs.lemmas.List.{append-nil}
+use Rattle.request_machine.proofs.Dialing.{grown_more, grown_none}
+use Rattle.request_machine.specs.declared.holding.Holding.{Holding}
+use Rattle.request_machine.specs.declared.stage.Closing.{Closing}
+use Rattle.request_machine.specs.declared.stage.Prompt.{Prompt}
+use Rattle.request_machine.specs.declared.stage.Stage.{Stage}
+use Rattle.request_machine.specs.declared.stage.Stage.TheVariants.{Go, Select as Selecting, Ask, NameText, Answer as Answering, Cancel as Cancelling, Lose as Losing, Take as Taking, Close}
+use Rattle.request_machine.specs.Kept.{Kept, Ties, IsStage, IsOpen, IsHeld, IsLed, IsAskOf, asked_of, is_after_end, can_stop, note_call, calls_left}
+use Rattle.request_machine.specs.Told.{held_chosen, closing_by}
+use Rattle.request_machine.specs.Replies.{challenged_told}
+use Rattle.request_machine.specs.Asking.{stage_asked, outcome_lost, unless_told, refused_by}
+use Rattle.request_machine.proofs.Quiet.{IsNext, IsStill, quiet_ties, same_held}
+use Rattle.request_machine.proofs.Prompts.{open_behind, open_settled}
+use Rattle.request_machine.proofs.Targets.{held_space}
+use Rattle.request_machine.proofs.Selected.{chosen_held}
+use Rattle.request_machine.proofs.Challenged.{notes_by}
+use Rattle.request_machine.proofs.Ending.{joined}
+
+-- A CALL OF THE BOOK
+
+-- a call changes the stage, what is held and the open prompt alone
+pub call_ties : (s : Setting) (m : Kept) (call : Call) (reply : BookReply) (stage : Stage) (proxy server : Option Holding) (p : ℕ)
+    → prompt_open (Called call reply ∷ m.past) (Called call reply ∷ m.past) ≡ p → Ties s m
+    → IsHeld s (Called call reply ∷ m.past) Proxy proxy → IsHeld s (Called call reply ∷ m.past) Server server → IsNext s (Called call reply ∷ m.past) stage
+    → Ties s (record m { past = Called call reply ∷ m.past; stage = stage; proxy = proxy; server = server; prompt = p })
+call_ties s m call reply stage proxy server p is_open t held_proxy held_server next = record {
+  same_number = t.same_number;
+  same_seed = t.same_seed;
+  route = t.route;
+  stage = next.stands;
+  proxy = held_proxy;
+  server = held_server;
+  drawn_proxy = t.drawn_proxy;
+  drawn_server = t.drawn_server;
+  noted_proxy = t.noted_proxy;
+  noted_server = t.noted_server;
+  links = t.links;
+  heads = t.heads;
+  code = t.code;
+  rounds = zero-add (rounds s m.past) ∙ t.rounds;
+  is_dialed = t.is_dialed;
+  has_lost = t.has_lost;
+  has_none = t.has_none;
+  ended = next.ended;
+  may_stop = next.may_stop;
+  prompt = is_open;
+  open_still = next.open_still;
+}
+
+-- no call at the end is made by it
+still_open : (s : Setting) (m : Kept) (stage : Stage) → m.stage ≡ stage → Ties s m → IsOpen stage (closings_made s m.past)
+still_open s m stage same t = subst (λ x. IsOpen x (closings_made s m.past)) same t.open_still
+
+none_made : (s : Setting) (m : Kept) → closings_made s m.past ≡ 0 → 0 + closings_made s m.past ≡ 0
+none_made s m none = zero-add (closings_made s m.past) ∙ none
+
+either : {A : Type 0} (b : Bool) (a : A) → (if b then a else a) ≡ a
+either true a = refl
+either false a = refl
+
+same_number : (n : ℕ) → (n == n) ≡ true
+same_number n = grind (arith)
+
+second_of : (a b : Bool) → (a && b) ≡ true → b ≡ true
+second_of true b e = e
+second_of false b e = absurd (false≢true e)
+
+first_of : (a b : Bool) → (a && b) ≡ true → a ≡ true
+first_of true b e = refl
+first_of false b e = absurd (false≢true e)
+
+not_true : (b : Bool) → not b ≡ true → b ≡ false
+not_true true e = absurd (false≢true e)
+not_true false e = refl
+
+-- LEADING A PROMPT
+
+-- the number of the prompt stands for it
+led_by : (p k : ℕ) (n : ℕ) → unwrap_or (if p == p then Some k else None) n ≡ k
+led_by p k n = ap (λ b. unwrap_or (if b then Some k else None) n) (same_number p)
+
+pub led_ties : (s : Setting) (m : Kept) (t : Target) (n k p ordinal : ℕ) → m.stage ≡ Selecting t n k → IsTrue (suits s m.past (Select n k) (Lead p ordinal)) → Ties s m
+    → Ties s (record m { past = Called (Select n k) (Lead p ordinal) ∷ m.past; stage = Ask (record { target = t; number = p; space = n; terms = k }) ordinal; prompt = p })
+led_ties s m x n k p ordinal same suited t =
+    let no_end : list_any is_end m.past ≡ false = t.ended ∙ ap is_after_end same in
+    let at : IsStage s m.past (Selecting x n k) = subst (IsStage s m.past) same t.stage in
+    let event : Event = Called (Select n k) (Lead p ordinal) in
+    let unsettled : list_any (settles p) m.past ≡ false = not_true (list_any (settles p) m.past) (second_of (not (p == 0)) (not (list_any (settles p) m.past)) (second_of (is_some (s.space_of n)) (not (p == 0) && not (list_any (settles p) m.past)) suited)) in
+    let is_open : prompt_open (event ∷ m.past) (event ∷ m.past) ≡ p = ap (λ b. if b then 0 else p) unsettled in
+    let asks : IsAskOf s (event ∷ m.past) (record { target = x; number = p; space = n; terms = k }) ordinal =
+    (λ space is. ap (λ b. unwrap_or (option_map (λ (ask : Asked). ask ∷ []) (if b then option_map (asked_of ordinal) (s.space_of n) else None)) (ask_of s m.past p)) (same_number p)
+    ∙ ap (λ o. unwrap_or (option_map (λ (ask : Asked). ask ∷ []) (option_map (asked_of ordinal) o)) (ask_of s m.past p)) is) in
+    call_ties s m (Select n k) (Lead p ordinal) (Ask (record { target = x; number = p; space = n; terms = k }) ordinal) m.proxy m.server p is_open t
+    (same_held s m.past event Proxy m.proxy (either (target_is s n Proxy) (held s m.past Proxy)) t.proxy)
+    (same_held s m.past event Server m.server (either (target_is s n Server) (held s m.past Server)) t.server)
+    (record {
+      stands = (
+        (at.0, subst (λ v. Follows s m.past v event) (sym at.1) (refl, suited)),
+        refl,
+        record { terms = led_by p k (terms_led m.past p); space = led_by p n (space_prompted m.past p); is_open = is_open; of_target = at.2 },
+        asks,
+      );
+      ended = no_end;
+      may_stop = rw no_end refl;
+      open_still = none_made s m (still_open s m (Selecting x n k) same t);
+    })
+
+-- THE PROMPTER'S ANSWER
+
+asked_still : (s : Setting) (past : List Event) (p : ℕ) (seen : AskSeen) → IsStill s past (AskedFor p seen)
+asked_still s past p seen = record {
+  drawn = λ t. refl;
+  carried = λ t. refl;
+  links = refl;
+  heads = refl;
+  code = refl;
+  rounds = zero-add (rounds s past);
+  is_dialed = refl;
+  has_lost = refl;
+  has_none = refl;
+  prompt = open_behind past (AskedFor p seen) (λ q. refl);
+}
+
+led_still : (s : Setting) (past : List Event) (p : Prompt) (seen : AskSeen) → IsLed s past p → IsLed s (AskedFor p.number seen ∷ past) p
+led_still s past p seen led = record {
+  terms = led.terms;
+  space = led.space;
+  is_open = open_behind past (AskedFor p.number seen) (λ q. refl) ∙ led.is_open;
+  of_target = led.of_target;
+}
+
+pub asked_ties : (s : Setting) (m : Kept) (p : Prompt) (ordinal : ℕ) (seen : AskSeen) → m.stage ≡ Ask p ordinal → Ties s m
+    → Ties s (record m { past = AskedFor p.number seen ∷ m.past; stage = stage_asked p seen })
+asked_ties s m p ordinal seen same t =
+    quiet_ties s m (AskedFor p.number seen) (stage_asked p seen) (asked_still s m.past p.number seen) (λ x. refl) t (by seen)
+  where
+    no_end : list_any is_end m.past ≡ false
+    no_end = t.ended ∙ ap is_after_end same
+
+    at : IsStage s m.past (Ask p ordinal)
+    at = subst (IsStage s m.past) same t.stage
+
+    past : (given : AskSeen) → IsPast s (AskedFor p.number given ∷ m.past)
+    past given = (at.0, subst (λ v. Follows s m.past v (AskedFor p.number given)) (sym at.1) refl)
+
+    by : (given : AskSeen) → IsNext s (AskedFor p.number given ∷ m.past) (stage_asked p given)
+    by AskGiven = record {
+      stands = (past AskGiven, ap (Answers p.number) at.2.terms, led_still s m.past p AskGiven at.2);
+      ended = no_end;
+      may_stop = rw no_end refl;
+      open_still = still_open s m (Ask p ordinal) same t;
+    }
+    by Cancel = record {
+      stands = (past Cancel, ap (λ k. Calls (Answer p.number 0 k)) at.2.terms, led_still s m.past p Cancel at.2);
+      ended = no_end;
+      may_stop = rw no_end refl;
+      open_still = still_open s m (Ask p ordinal) same t;
+    }
+    by (AskFailed count) = record {
+      stands = (past (AskFailed count), refl, led_still s m.past p (AskFailed count) at.2);
+      ended = no_end;
+      may_stop = rw no_end refl;
+      open_still = still_open s m (Ask p ordinal) same t;
+    }
+    by AskNoMemory = record {
+      stands = (past AskNoMemory, refl, led_still s m.past p AskNoMemory at.2);
+      ended = no_end;
+      may_stop = rw no_end refl;
+      open_still = still_open s m (Ask p ordinal) same t;
+    }
+
+-- a text has a number
+pub text_named_ties : (s : Setting) (m : Kept) (p : Prompt) (text : ℕ) → m.stage ≡ NameText p → IsTrue (not (text == 0)) → Ties s m → Ties s (record m { stage = Answering p text })
+text_named_ties s m p text same some t =
+    let at : IsStage s m.past (NameText p) = subst (IsStage s m.past) same t.stage in
+    record {
+      same_number = t.same_number;
+      same_seed = t.same_seed;
+      route = t.route;
+      stage = (at.0, at.1, at.2, some);
+      proxy = t.proxy;
+      server = t.server;
+      drawn_proxy = t.drawn_proxy;
+      drawn_server = t.drawn_server;
+      noted_proxy = t.noted_proxy;
+      noted_server = t.noted_server;
+      links = t.links;
+      heads = t.heads;
+      code = t.code;
+      rounds = t.rounds;
+      is_dialed = t.is_dialed;
+      has_lost = t.has_lost;
+      has_none = t.has_none;
+      ended = t.ended ∙ ap is_after_end same;
+      may_stop = t.may_stop ∙ ap can_stop same;
+      prompt = t.prompt;
+      open_still = still_open s m (NameText p) same t;
+    }
+
+-- THE BOOK'S REPLY TO AN ANSWER
+
+-- once it is settled, no prompt is open
+closed_by : (s : Setting) (past : List Event) (p : Prompt) (event : Event) → ((q : ℕ) → settles q event ≡ (p.number == q)) → IsLed s past p → prompt_open (event ∷ past) past ≡ 0
+closed_by s past p event settled led =
+    open_settled past event (λ q e. settled q ∙ subst (λ z. (p.number == z) ≡ true) (sym led.is_open ∙ e) (same_number p.number)) past refl
+
+-- the target of the prompt's space is that of its gift
+gift_target : (s : Setting) (p : Prompt) (gift : Gift) → gift.space ≡ p.space → ((x : Target) → target_is s p.space x ≡ same_target x p.target) → (x : Target) → target_is s gift.space x ≡ same_target x p.target
+gift_target s p gift spaced known x = ap (λ n. target_is s n x) spaced ∙ known x
+
+pub given_ties : (s : Setting) (m : Kept) (p : Prompt) (text evicted : ℕ) (gift : Gift) → m.stage ≡ Answering p text → IsTrue (suits s m.past (Answer p.number text p.terms) (Given gift evicted)) → Ties s m
+    → Ties s (record m {
+      past = Called (Answer p.number text p.terms) (Given gift evicted) ∷ m.past;
+      stage = Go;
+      prompt = 0;
+      proxy = held_chosen p.target gift p.terms Proxy m.proxy;
+      server = held_chosen p.target gift p.terms Server m.server;
+    })
+given_ties s m p text evicted gift same suited t =
+    let no_end : list_any is_end m.past ≡ false = t.ended ∙ ap is_after_end same in
+    let at : IsStage s m.past (Answering p text) = subst (IsStage s m.past) same t.stage in
+    let event : Event = Called (Answer p.number text p.terms) (Given gift evicted) in
+    let spaced : gift.space ≡ p.space = held_space s gift (space_prompted m.past p.number) p.terms (second_of (not (text == 0)) (may_hold s gift (space_prompted m.past p.number) p.terms) suited) ∙ at.2.space in
+    call_ties s m (Answer p.number text p.terms) (Given gift evicted) Go (held_chosen p.target gift p.terms Proxy m.proxy) (held_chosen p.target gift p.terms Server m.server) 0
+    (closed_by s m.past p event (λ q. refl) at.2) t
+    (chosen_held s m.past event Proxy p.target gift.space p.terms gift m.proxy refl (gift_target s p gift spaced at.2.of_target) refl t.proxy)
+    (chosen_held s m.past event Server p.target gift.space p.terms gift m.server refl (gift_target s p gift spaced at.2.of_target) refl t.server)
+    (record {
+      stands = ((at.0, subst (λ v. Follows s m.past v event) (sym at.1) (refl, refl, at.3, suited)), refl);
+      ended = no_end;
+      may_stop = rw no_end refl;
+      open_still = none_made s m (still_open s m (Answering p text) same t);
+    })
+
+-- REFUSED, OR LOST
+
+-- whom the last reply challenges is told by its code
+challenged_by_code : (s : Setting) (past : List Event) (t : Target) → is_challenged s past t ≡ unwrap_or (option_map (same_target t) (challenged_told (is_proxied s) (code past))) false
+challenged_by_code s past t = at (last_reply past)
+  where
+    at : (o : Option Reply) → unwrap_or (option_map (λ reply. challenges_target s reply t) o) false
+        ≡ unwrap_or (option_map (same_target t) (challenged_told (is_proxied s) (unwrap_or (option_map (λ (reply : Reply). reply.code) o) 0))) false
+    at None = refl
+    at (Some reply) = refl
+
+challenged_now : (s : Setting) (m : Kept) (t : Target) → Ties s m → is_challenged s m.past t ≡ unwrap_or (option_map (same_target t) (challenged_told m.is_proxied m.code)) false
+challenged_now s m t ties =
+    challenged_by_code s m.past t
+    ∙ ap (λ b. unwrap_or (option_map (same_target t) (challenged_told b (code m.past))) false) ties.route
+    ∙ ap (λ c. unwrap_or (option_map (same_target t) (challenged_told m.is_proxied c)) false) ties.code
+
+-- the calls that are left where the request is refused behind a call
+pub refused_left : (s : Setting) (m : Kept) (call : Call) (reply : BookReply) (why : Why) → Ties s m
+    → closings s (Called call reply ∷ m.past) (Refused m.code why) ≡ map Some (calls_left (refused_by m why))
+refused_left s m call reply why t =
+    let whole : List Event = Called call reply ∷ m.past in
+    let a : Option Gift = unless_told (challenged_told m.is_proxied m.code) Proxy m.noted_proxy in
+    let b : Option Gift = unless_told (challenged_told m.is_proxied m.code) Server m.noted_server in
+    let first : note_for s whole Proxy ≡ note_call a [] =
+    notes_by s whole Proxy (carried s m.past Proxy) (unwrap_or (option_map (same_target Proxy) (challenged_told m.is_proxied m.code)) false) (challenged_now s m Proxy t)
+    ∙ ap (λ g. note_call (if unwrap_or (option_map (same_target Proxy) (challenged_told m.is_proxied m.code)) false then None else g) []) t.noted_proxy in
+    let second : note_for s whole Server ≡ note_call b [] =
+    notes_by s whole Server (carried s m.past Server) (unwrap_or (option_map (same_target Server) (challenged_told m.is_proxied m.code)) false) (challenged_now s m Server t)
+    ∙ ap (λ g. note_call (if unwrap_or (option_map (same_target Server) (challenged_told m.is_proxied m.code)) false then None else g) []) t.noted_server in
+    ap (λ calls. map Some ((calls ++ note_for s whole Server) ++ CallEnd ∷ [])) first ∙ ap (λ calls. map Some ((note_call a [] ++ calls) ++ CallEnd ∷ [])) second ∙ ap (map Some) (joined a b)
+
+-- a call closes the request
+pub call_closes : (s : Setting) (m : Kept) (call : Call) (reply : BookReply) (c : Closing) (p : ℕ)
+    → IsPast s (Called call reply ∷ m.past) → move s (Called call reply ∷ m.past) ≡ Closes c.outcome → closings s (Called call reply ∷ m.past) c.outcome ≡ map Some (calls_left c)
+    → closings_made s (Called call reply ∷ m.past) ≡ 0 → list_any is_end (Called call reply ∷ m.past) ≡ false → is_follow (Called call reply) ≡ false
+    → prompt_open (Called call reply ∷ m.past) (Called call reply ∷ m.past) ≡ p → ((x : Target) → held s (Called call reply ∷ m.past) x ≡ held s m.past x) → Ties s m
+    → Ties s (record m { past = Called call reply ∷ m.past; stage = Close c; prompt = p })
+call_closes s m call reply c p past moved left made no_end follow is_open same t =
+    call_ties s m call reply (Close c) m.proxy m.server p is_open t (same_held s m.past (Called call reply) Proxy m.proxy (same Proxy) t.proxy) (same_held s m.past (Called call reply) Server m.server (same Server) t.server)
+    (record {
+      stands = (past, moved, ap (λ n. drop n (closings s (Called call reply ∷ m.past) c.outcome)) made ∙ left);
+      ended = no_end;
+      may_stop = rw (follow, no_end) refl;
+      open_still = tt;
+    })
+
+-- the user cancelled
+pub cancelled_ties : (s : Setting) (m : Kept) (p : Prompt) → m.stage ≡ Cancelling p → IsTrue (suits s m.past (Answer p.number 0 p.terms) Cancelled) → Ties s m
+    → Ties s (record m { past = Called (Answer p.number 0 p.terms) Cancelled ∷ m.past; stage = Close (refused_by m (ByCancel p.number)); prompt = 0 })
+cancelled_ties s m p same suited t =
+    let at : IsStage s m.past (Cancelling p) = subst (IsStage s m.past) same t.stage in
+    let event : Event = Called (Answer p.number 0 p.terms) Cancelled in
+    call_closes s m (Answer p.number 0 p.terms) Cancelled (refused_by m (ByCancel p.number)) 0
+    (at.0, subst (λ v. Follows s m.past v event) (sym at.1) (refl, suited)) (ap (λ c. Closes (Refused c (ByCancel p.number))) t.code)
+    (refused_left s m (Answer p.number 0 p.terms) Cancelled (ByCancel p.number) t)
+    (none_made s m (still_open s m (Cancelling p) same t)) (t.ended ∙ ap is_after_end same) refl (closed_by s m.past p event (λ q. refl) at.2) (λ x. refl) t
+
+same_loss_is : (a b : Loss) → same_loss a b ≡ true → a ≡ b
+same_loss_is (Fault a) (Fault b) e = ap Fault (grind (arith, e))
+same_loss_is (Fault a) Memory e = absurd (false≢true e)
+same_loss_is Memory (Fault b) e = absurd (false≢true e)
+same_loss_is Memory Memory e = refl
+
+lost_closes : (loss : Loss) → lost loss ≡ Closes (outcome_lost loss)
+lost_closes (Fault count) = refl
+lost_closes Memory = refl
+
+lost_left : (s : Setting) (whole : List Event) (loss : Loss) → closings s whole (outcome_lost loss) ≡ map Some (calls_left (closing_by (outcome_lost loss)))
+lost_left s whole (Fault count) = refl
+lost_left s whole Memory = refl
+
+-- the prompt is lost
+pub prompt_failed_ties : (s : Setting) (m : Kept) (p : Prompt) (loss told : Loss) → m.stage ≡ Losing p loss → IsTrue (suits s m.past (Lose p.number loss) (Lost told)) → Ties s m
+    → Ties s (record m { past = Called (Lose p.number loss) (Lost told) ∷ m.past; stage = Close (closing_by (outcome_lost told)); prompt = 0 })
+prompt_failed_ties s m p loss told same suited t =
+    let at : IsStage s m.past (Losing p loss) = subst (IsStage s m.past) same t.stage in
+    let event : Event = Called (Lose p.number loss) (Lost told) in
+    call_closes s m (Lose p.number loss) (Lost told) (closing_by (outcome_lost told)) 0
+    (at.0, subst (λ v. Follows s m.past v event) (sym at.1) (refl, suited)) (lost_closes told) (lost_left s (event ∷ m.past) told)
+    (none_made s m (still_open s m (Losing p loss) same t)) (t.ended ∙ ap is_after_end same) refl (closed_by s m.past p event (λ q. refl) at.2) (λ x. refl) t
+
+-- FOLLOWING A PROMPT
+
+pub followed_ties : (s : Setting) (m : Kept) (t : Target) (n k p : ℕ) → m.stage ≡ Selecting t n k → IsTrue (suits s m.past (Select n k) (Follow p)) → Ties s m
+    → Ties s (record m { past = Called (Select n k) (Follow p) ∷ m.past; stage = Taking (record { target = t; number = p; space = n; terms = k }) })
+followed_ties s m x n k p same suited t =
+    let no_end : list_any is_end m.past ≡ false = t.ended ∙ ap is_after_end same in
+    let at : IsStage s m.past (Selecting x n k) = subst (IsStage s m.past) same t.stage in
+    let event : Event = Called (Select n k) (Follow p) in
+    call_ties s m (Select n k) (Follow p) (Taking (record { target = x; number = p; space = n; terms = k })) m.proxy m.server m.prompt
+    (open_behind m.past event (λ q. refl) ∙ t.prompt) t
+    (same_held s m.past event Proxy m.proxy (either (target_is s n Proxy) (held s m.past Proxy)) t.proxy)
+    (same_held s m.past event Server m.server (either (target_is s n Server) (held s m.past Server)) t.server)
+    (record {
+      stands = (
+        (at.0, subst (λ v. Follows s m.past v event) (sym at.1) (refl, suited)),
+        refl,
+        record { terms = led_by p k (terms_followed m.past p); space = led_by p n (space_prompted m.past p); of_target = at.2 },
+      );
+      ended = no_end;
+      may_stop = refl;
+      open_still = none_made s m (still_open s m (Selecting x n k) same t);
+    })
+
+-- the answer to a prompt of another request is a gift
+pub taken_ties : (s : Setting) (m : Kept) (p : Prompt) (gift : Gift) → m.stage ≡ Taking p → IsTrue (suits s m.past (Take p.number) (Gave gift)) → Ties s m
+    → Ties s (record m {
+      past = Called (Take p.number) (Gave gift) ∷ m.past;
+      stage = Go;
+      proxy = held_chosen p.target gift p.terms Proxy m.proxy;
+      server = held_chosen p.target gift p.terms Server m.server;
+    })
+taken_ties s m p gift same suited t =
+    let no_end : list_any is_end m.past ≡ false = t.ended ∙ ap is_after_end same in
+    let at : IsStage s m.past (Taking p) = subst (IsStage s m.past) same t.stage in
+    let event : Event = Called (Take p.number) (Gave gift) in
+    let spaced : gift.space ≡ p.space = held_space s gift (space_prompted m.past p.number) (terms_followed m.past p.number) suited ∙ at.2.space in
+    call_ties s m (Take p.number) (Gave gift) Go (held_chosen p.target gift p.terms Proxy m.proxy) (held_chosen p.target gift p.terms Server m.server) m.prompt
+    (open_behind m.past event (λ q. refl) ∙ t.prompt) t
+    (chosen_held s m.past event Proxy p.target gift.space p.terms gift m.proxy (ap (λ k. if_target s Proxy gift.space (gift_held gift k None) (held s m.past Proxy)) at.2.terms) (gift_target s p gift spaced at.2.of_target) refl t.proxy)
+    (chosen_held s m.past event Server p.target gift.space p.terms gift m.server (ap (λ k. if_target s Server gift.space (gift_held gift k None) (held s m.past Server)) at.2.terms) (gift_target s p gift spaced at.2.of_target) refl t.server)
+    (record {
+      stands = ((at.0, subst (λ v. Follows s m.past v event) (sym at.1) (refl, suited)), refl);
+      ended = no_end;
+      may_stop = rw no_end refl;
+      open_still = none_made s m (still_open s m (Taking p) same t);
+    })
+
+-- it was cancelled
+pub not_taken_ties : (s : Setting) (m : Kept) (p : Prompt) → m.stage ≡ Taking p → IsTrue (suits s m.past (Take p.number) Cancelled) → Ties s m
+    → Ties s (record m { past = Called (Take p.number) Cancelled ∷ m.past; stage = Close (refused_by m (ByCancel p.number)) })
+not_taken_ties s m p same suited t =
+    let at : IsStage s m.past (Taking p) = subst (IsStage s m.past) same t.stage in
+    let event : Event = Called (Take p.number) Cancelled in
+    call_closes s m (Take p.number) Cancelled (refused_by m (ByCancel p.number)) m.prompt
+    (at.0, subst (λ v. Follows s m.past v event) (sym at.1) (refl, suited)) (ap (λ c. Closes (Refused c (ByCancel p.number))) t.code)
+    (refused_left s m (Take p.number) Cancelled (ByCancel p.number) t)
+    (none_made s m (still_open s m (Taking p) same t)) (t.ended ∙ ap is_after_end same) refl (open_behind m.past event (λ q. refl) ∙ t.prompt) (λ x. refl) t
+
+-- it was lost
+pub lost_with_it_ties : (s : Setting) (m : Kept) (p : Prompt) (told : Loss) → m.stage ≡ Taking p → IsTrue (suits s m.past (Take p.number) (Lost told)) → Ties s m
+    → Ties s (record m { past = Called (Take p.number) (Lost told) ∷ m.past; stage = Close (closing_by (outcome_lost told)) })
+lost_with_it_ties s m p told same suited t =
+    let at : IsStage s m.past (Taking p) = subst (IsStage s m.past) same t.stage in
+    let event : Event = Called (Take p.number) (Lost told) in
+    call_closes s m (Take p.number) (Lost told) (closing_by (outcome_lost told)) m.prompt
+    (at.0, subst (λ v. Follows s m.past v event) (sym at.1) (refl, suited)) (lost_closes told) (lost_left s (event ∷ m.past) told)
+    (none_made s m (still_open s m (Taking p) same t)) (t.ended ∙ ap is_after_end same) refl (open_behind m.past event (λ q. refl) ∙ t.prompt) (λ x. refl) t
+
+-- the identity that was given plays no part
+pub given_kept_ties : (s : Setting) (m : Kept) (login : Login) → Ties s m → Ties s (record m { given = Some login })
+given_kept_ties s m login t = record {
+  same_number = t.same_number;
+  same_seed = t.same_seed;
+  route = t.route;
+  stage = t.stage;
+  proxy = t.proxy;
+  server = t.server;
+  drawn_proxy = t.drawn_proxy;
+  drawn_server = t.drawn_server;
+  noted_proxy = t.noted_proxy;
+  noted_server = t.noted_server;
+  links = t.links;
+  heads = t.heads;
+  code = t.code;
+  rounds = t.rounds;
+  is_dialed = t.is_dialed;
+  has_lost = t.has_lost;
+  has_none = t.has_none;
+  ended = t.ended;
+  may_stop = t.may_stop;
+  prompt = t.prompt;
+  open_still = t.open_still;
+}
+
+-- WHAT THE PROMPTER TELLS
+
+-- one answered prompt more
+pub one_ask : (s : Setting) (m : Kept) (p : Prompt) (ordinal : ℕ) (seen : AskSeen) (space : ProtectionSpace) (before old : Option (List Asked)) → m.stage ≡ Ask p ordinal → is_answered seen ≡ true
+    → s.space_of p.space ≡ Some space → Ties s m → old ≡ grown before (prompted s m.past)
+    → grown old (asked_of ordinal space ∷ []) ≡ grown before (prompted s (AskedFor p.number seen ∷ m.past))
+one_ask s m p ordinal seen space before old same answers is t told =
+    let at : IsStage s m.past (Ask p ordinal) = subst (IsStage s m.past) same t.stage in
+    ap (λ o. grown o (asked_of ordinal space ∷ [])) told
+    ∙ grown_more before (prompted s m.past) (asked_of ordinal space ∷ [])
+    ∙ ap (λ asks. grown before (prompted s m.past ++ asks)) (sym (at.3 space is))
+    ∙ ap (λ b. grown before (prompted s m.past ++ (if b then ask_of s m.past p.number else []))) (sym answers)
+
+-- no answer is told
+pub no_ask : (s : Setting) (m : Kept) (p : ℕ) (seen : AskSeen) (before old : Option (List Asked)) → is_answered seen ≡ false → old ≡ grown before (prompted s m.past)
+    → grown old [] ≡ grown before (prompted s (AskedFor p seen ∷ m.past))
+no_ask s m p seen before old none told =
+    grown_none old ∙ told ∙ ap (grown before) (sym (append-nil (prompted s m.past)))
+    ∙ ap (λ b. grown before (prompted s m.past ++ (if b then ask_of s m.past p else []))) (sym none)

@@ -1,0 +1,45 @@
+-- Replies over a free link.
+use Rattle.std.proofs.Common.{◌≤◌, ◌≡◌, ℕ, ◌+◌, true, false, nat_le, Option, ap, ◌∙◌, arith, ◌<◌}
+use Rattle.spaces.specs.declared.site.Target.{Target}
+use Rattle.wire_head.specs.declared.reply.Reply.{Reply}
+use Rattle.trace_rule.specs.Settings.{Setting}
+use Rattle.trace_rule.specs.Challenges.{challenged}
+use Rattle.link_trait.specs.declared.links.LinkName.{LinkName}
+use Rattle.request_machine.specs.Kept.{Kept, Ties}
+use Rattle.request_machine.specs.Replies.{challenged_told}
+
+-- whom a reply challenges, by what was told of the route
+pub challenged_is_told : (s : Setting) (m : Kept) (reply : Reply) (o : Option Target) → challenged_told m.is_proxied reply.code ≡ o → Ties s m → challenged s reply ≡ o
+challenged_is_told s m reply o told t = ap (λ b. challenged_told b reply.code) t.route ∙ told
+
+-- the link plays no part
+pub linked_ties : (s : Setting) (m : Kept) (link : Option LinkName) → Ties s m → Ties s (record m { link = link })
+linked_ties s m link t = record {
+  same_number = t.same_number;
+  same_seed = t.same_seed;
+  route = t.route;
+  stage = t.stage;
+  proxy = t.proxy;
+  server = t.server;
+  drawn_proxy = t.drawn_proxy;
+  drawn_server = t.drawn_server;
+  noted_proxy = t.noted_proxy;
+  noted_server = t.noted_server;
+  links = t.links;
+  heads = t.heads;
+  code = t.code;
+  rounds = t.rounds;
+  is_dialed = t.is_dialed;
+  has_lost = t.has_lost;
+  has_none = t.has_none;
+  ended = t.ended;
+  may_stop = t.may_stop;
+  prompt = t.prompt;
+  open_still = t.open_still;
+}
+
+pub few_rounds : (n : ℕ) → n < 16 → nat_le 17 (n + 1) ≡ false
+few_rounds n few = grind (arith, few)
+
+pub all_rounds : (n : ℕ) → 16 ≤ n → nat_le 17 (n + 1) ≡ true
+all_rounds n all = grind (arith, all)

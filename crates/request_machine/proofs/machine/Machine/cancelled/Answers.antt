@@ -1,0 +1,14 @@
+use Rattle.std.proofs.Common.{◌∷◌, sym, subst, ◌∙◌}
+use Rattle.auth_events.specs.declared.journal.Call.TheVariants.{Answer}
+use Rattle.auth_events.specs.declared.journal.BookReply.TheVariants.{Cancelled}
+use Rattle.auth_runs.specs.declared.event.Event.TheVariants.{Called}
+use Rattle.request_machine.specs.declared.stage.Stage.TheVariants.{Close}
+use Rattle.request_machine.specs.Kept.{Kept, Ties}
+use Rattle.request_machine.proofs.Prompting.{cancelled_ties}
+use Rattle.request_machine.proofs.machine.Machine.cancelled.Goals as goal
+
+pub returns-clause-ties : goal.returns-clause-ties
+returns-clause-ties c = λ s suited t.
+    subst (λ (v : Kept). Ties s (record v { stage = Close c.refused_by-closing.result; prompt = 0 })) (sym (c.self.view_is ∙ c.push.ensures))
+    (subst (λ r. Ties s (record c.args.self.now { past = Called (Answer c.args.prompt.number 0 c.args.prompt.terms) Cancelled ∷ c.args.self.now.past; stage = Close r; prompt = 0 })) (sym c.refused_by-closing.ensures)
+    (cancelled_ties s c.args.self.now c.args.prompt c.requires.stage suited t))

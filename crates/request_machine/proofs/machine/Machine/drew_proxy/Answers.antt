@@ -1,0 +1,17 @@
+use Rattle.std.proofs.Common.{◌∷◌, Some, None, sym, subst, ap, ◌∙◌, option_and_then}
+use Rattle.spaces.specs.declared.site.Target.TheVariants.{Proxy}
+use Rattle.auth_runs.specs.declared.event.Event.TheVariants.{Drew}
+use Rattle.request_machine.specs.declared.stage.Stage.TheVariants.{Go}
+use Rattle.request_machine.specs.Heads.{kept_drew}
+use Rattle.request_machine.specs.Kept.{Kept, Ties}
+use Rattle.request_machine.proofs.Drawing.{drew_proxy_ties}
+use Rattle.request_machine.proofs.machine.Machine.drew_proxy.Goals as goal
+
+pub returns-clause-ties : goal.returns-clause-ties
+returns-clause-ties c = λ s t.
+    subst (λ (v : Kept). Ties s (record v { stage = Go; drawn_proxy = Some c.args.drawn.count }))
+    (sym (c.self.view_is ∙ c.hold_proxy.ensures
+    ∙ ap (λ (m : Kept). record m { proxy = c.kept_drew.result }) (c.take_proxy-before.ensures.rest ∙ ap (λ (m : Kept). record m { proxy = None }) c.push.ensures)
+    ∙ ap (λ h. record c.args.self.now { past = Drew Proxy c.args.nonce c.args.drawn.count c.args.drawn.epoch ∷ c.args.self.now.past; proxy = h })
+    (c.kept_drew.ensures ∙ ap (option_and_then (kept_drew c.args.drawn.epoch)) (c.take_proxy-before.ensures.value ∙ ap (λ (m : Kept). m.proxy) c.push.ensures))))
+    (drew_proxy_ties s c.args.self.now c.args.nonce c.args.drawn.count c.args.drawn.epoch c.requires.stage t)

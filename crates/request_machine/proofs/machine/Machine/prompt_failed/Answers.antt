@@ -1,0 +1,14 @@
+use Rattle.std.proofs.Common.{◌∷◌, sym, subst, ◌∙◌}
+use Rattle.auth_events.specs.declared.journal.Call.TheVariants.{Lose}
+use Rattle.auth_events.specs.declared.journal.BookReply.TheVariants.{Lost}
+use Rattle.auth_runs.specs.declared.event.Event.TheVariants.{Called}
+use Rattle.request_machine.specs.declared.stage.Stage.TheVariants.{Close}
+use Rattle.request_machine.specs.Kept.{Kept, Ties}
+use Rattle.request_machine.proofs.Prompting.{prompt_failed_ties}
+use Rattle.request_machine.proofs.machine.Machine.prompt_failed.Goals as goal
+
+pub returns-clause-ties : goal.returns-clause-ties
+returns-clause-ties c = λ s suited t.
+    subst (λ (v : Kept). Ties s (record v { stage = Close c.closing_lost.result; prompt = 0 })) (sym (c.self.view_is ∙ c.push.ensures))
+    (subst (λ r. Ties s (record c.args.self.now { past = Called (Lose c.args.prompt.number c.args.loss) (Lost c.args.told) ∷ c.args.self.now.past; stage = Close r; prompt = 0 })) (sym c.closing_lost.ensures)
+    (prompt_failed_ties s c.args.self.now c.args.prompt c.args.loss c.args.told c.requires.stage suited t))

@@ -1,0 +1,18 @@
+use Rattle.std.proofs.Common.{None, sym, subst, ap, ◌∙◌, option_map}
+use Rattle.request_machine.specs.declared.stage.Stage.TheVariants.{Go}
+use Rattle.request_machine.specs.Told.{with_space}
+use Rattle.request_machine.specs.Changed.{holding, put_held}
+use Rattle.request_machine.specs.Kept.{Kept, Ties}
+use Rattle.request_machine.proofs.Learning.{put_twice, space_ties}
+use Rattle.request_machine.proofs.machine.Machine.told_space.Goals as goal
+
+pub returns : goal.returns
+returns c = record {
+  ties = λ s told t.
+      subst (λ (v : Kept). Ties s (record v { stage = Go }))
+      (sym (c.self.view_is ∙ c.put.ensures
+      ∙ ap (put_held c.args.target c.with_space.result) c.take-before.ensures.rest
+      ∙ ap (λ h. put_held c.args.target h (put_held c.args.target None c.args.self.now)) (c.with_space.ensures ∙ ap (option_map (with_space c.args.space)) c.take-before.ensures.value)
+      ∙ put_twice c.args.target (option_map (with_space c.args.space) (holding c.args.self.now c.args.target)) c.args.self.now))
+      (space_ties s c.args.self.now c.args.target c.args.space c.requires.stage told t);
+}

@@ -1,0 +1,94 @@
+-- What a setting has to say so that an answer to a need is true of it.
+use Rattle.std.specs.Prelude.{Bool, true, false, List, ◌∷◌, ◌≡◌, IsTrue, IfSome, Some}
+use Rattle.auth_text.specs.Login.{Login}
+use Rattle.spaces.specs.declared.site.Target.{Target}
+use Rattle.spaces.specs.ProtectionSpaces.{ProtectionSpace}
+use Rattle.auth_events.specs.declared.journal.Call.TheVariants.{Begin, Preempt, Select, Reject, Answer, Lose, Take, End as CallEnd}
+use Rattle.auth_events.specs.declared.journal.Call.{Call}
+use Rattle.auth_events.specs.declared.journal.BookReply.{BookReply}
+use Rattle.auth_events.specs.declared.journal.BookReply.TheVariants.{Given, Cancelled}
+use Rattle.auth_events.specs.Pages.{fits}
+use Rattle.auth_runs.specs.declared.event.Event.{Event}
+use Rattle.auth_runs.specs.declared.event.Event.TheVariants.{Called}
+use Rattle.spaces.specs.declared.site.Target.TheVariants.{Server, Proxy}
+use Rattle.trace_rule.specs.Settings.{Setting}
+use Rattle.trace_rule.specs.Traces.{suits}
+use Rattle.request_machine.specs.declared.holding.NamedTerms.{NamedTerms}
+use Rattle.request_machine.specs.declared.gave.Gave.{Gave}
+use Rattle.request_machine.specs.declared.gave.Gave.TheVariants.{Reply, Identity, Terms, Space}
+use Rattle.request_machine.specs.declared.stage.Piece.TheVariants.{Space as OfSpace, Identity as OfIdentity, Terms as OfTerms}
+use Rattle.request_machine.specs.declared.stage.Stage.{Stage}
+use Rattle.request_machine.specs.declared.stage.Stage.TheVariants.{Call as Calling, Learn, Select as Selecting, Answer as Answering, Cancel as Cancelling, Lose as Losing, Take as Taking, Reject as Rejecting, Close}
+use Rattle.request_machine.specs.Kept.{Kept, terms_kept}
+use Rattle.request_machine.specs.Changed.{holding}
+use Rattle.request_machine.specs.Needs.{first_left}
+
+-- the reply suits the call that was asked for
+abbrev pub IsReplyTo : Setting → Kept → Stage → BookReply → Type 0
+IsReplyTo s m (Calling call) reply = IsTrue (suits s m.past call reply)
+IsReplyTo s m (Selecting t n k) reply = IsTrue (suits s m.past (Select n k) reply)
+IsReplyTo s m (Answering p text) reply = IsTrue (suits s m.past (Answer p.number text p.terms) reply)
+IsReplyTo s m (Cancelling p) reply = IsTrue (suits s m.past (Answer p.number 0 p.terms) reply)
+IsReplyTo s m (Losing p loss) reply = IsTrue (suits s m.past (Lose p.number loss) reply)
+IsReplyTo s m (Taking p) reply = IsTrue (suits s m.past (Take p.number) reply)
+IsReplyTo s m (Rejecting t gift) reply = IsTrue (suits s m.past (Reject gift.space gift.ordinal) reply)
+IsReplyTo s m (Close c) reply = IsTrue (suits s m.past (first_left c.proxy c.server) reply)
+IsReplyTo s m stage reply = Unit {0}
+
+-- what was told of what is held is so
+abbrev pub IsSpaceTold : Setting → Kept → Target → ProtectionSpace → Type 0
+IsSpaceTold s m t space = IfSome (holding m t) (λ h. s.space_of h.gift.space ≡ Some space)
+
+abbrev pub IsIdentityTold : Setting → Kept → Target → Login → Type 0
+IsIdentityTold s m t identity = IfSome (holding m t) (λ h. s.identity_of h.gift ≡ Some identity)
+
+abbrev pub IsTermsTold : Setting → Kept → Target → NamedTerms → Type 0
+IsTermsTold s m t named = IfSome (holding m t) (λ h. s.terms_of h.terms ≡ Some (terms_kept h named))
+
+abbrev pub IsTold : Setting → Kept → Stage → Gave → Type 0
+IsTold s m stage (Reply reply) = IsReplyTo s m stage reply
+IsTold s m (Learn t OfSpace) (Space space) = IsSpaceTold s m t space
+IsTold s m (Learn t OfIdentity) (Identity identity) = IsIdentityTold s m t identity
+IsTold s m (Learn t OfTerms) (Terms terms nonce) = IsTermsTold s m t (record { terms = terms; nonce = nonce })
+IsTold s m stage gave = Unit {0}
+
+-- WHAT IS HEARD
+
+abbrev pub is_given : BookReply → Bool
+is_given (Given gift evicted) = true
+is_given _ = false
+
+abbrev pub is_cancelled : BookReply → Bool
+is_cancelled Cancelled = true
+is_cancelled _ = false
+
+-- the call to which a reply is awaited
+abbrev pub call_at : Stage → Call
+call_at (Calling call) = call
+call_at (Selecting t n k) = Select n k
+call_at (Answering p text) = Answer p.number text p.terms
+call_at (Cancelling p) = Answer p.number 0 p.terms
+call_at (Losing p loss) = Lose p.number loss
+call_at (Taking p) = Take p.number
+call_at (Rejecting t gift) = Reject gift.space gift.ordinal
+call_at (Close c) = first_left c.proxy c.server
+call_at stage = CallEnd
+
+-- the reply fits the call that was asked for; a text gives a gift, and no text cancels
+abbrev pub is_heard : Stage → BookReply → Bool
+is_heard (Calling Begin) reply = true
+is_heard (Calling (Preempt Proxy)) reply = true
+is_heard (Calling (Preempt Server)) reply = true
+is_heard (Selecting t n k) reply = fits (Select n k) reply
+is_heard (Answering p text) reply = is_given reply
+is_heard (Cancelling p) reply = is_cancelled reply
+is_heard (Losing p loss) reply = fits (Lose p.number loss) reply
+is_heard (Taking p) reply = fits (Take p.number) reply
+is_heard (Rejecting t gift) reply = true
+is_heard (Close c) reply = true
+is_heard stage reply = false
+
+-- the answer to a call is heard
+abbrev pub IsHeardIn : Stage → Gave → List Event → List Event → Type 0
+IsHeardIn stage (Reply reply) before now = IsTrue (is_heard stage reply) → now ≡ Called (call_at stage) reply ∷ before
+IsHeardIn stage gave before now = Unit {0}

@@ -1,0 +1,12 @@
+pub mod Kept
+pub mod Told
+pub mod Heads
+pub mod Making
+pub mod Chosen
+pub mod Changed
+pub mod Replies
+pub mod Needs
+pub mod Turns
+pub mod Asking
+pub mod Reads
+pub mod Gives

@@ -1,0 +1,83 @@
+-- What a machine knows of what it holds, by what it was told.
+use Rattle.std.specs.Prelude.{ℕ, ◌≡◌, ◌||◌, Bool, false, Option, Some, None, IsSome, is_some, unwrap_or, option_map, option_and_then, if◌then◌else◌}
+use Rattle.spaces.specs.declared.site.Target.{Target}
+use Rattle.spaces.specs.declared.site.Target.TheVariants.{Server, Proxy}
+use Rattle.spaces.specs.declared.space.Scheme.{Scheme}
+use Rattle.spaces.specs.declared.space.Scheme.TheVariants.{Basic, Digest, Negotiate}
+use Rattle.spaces.specs.ProtectionSpaces.{ProtectionSpace}
+use Rattle.spaces.specs.Sites.{same_scheme, same_target}
+use Rattle.trace_rule.specs.Moves.{has_count}
+use Rattle.auth_events.specs.declared.journal.Gift.{Gift}
+use Rattle.auth_events.specs.declared.journal.BookReply.{BookReply}
+use Rattle.auth_events.specs.declared.journal.BookReply.TheVariants.{Ready}
+use Rattle.auth_text.specs.Login.{Login}
+use Rattle.auth_runs.specs.declared.event.Outcome.{Outcome}
+use Rattle.request_machine.specs.declared.stage.Closing.{Closing}
+use Rattle.request_machine.specs.declared.holding.NamedTerms.{NamedTerms}
+use Rattle.request_machine.specs.declared.holding.Holding.{Holding}
+
+abbrev pub scheme_told : Option ProtectionSpace → Scheme → Bool
+scheme_told space scheme = unwrap_or (option_map (λ named. same_scheme named.scheme scheme) space) false
+
+-- the nonce of which a count is drawn
+abbrev pub counted_nonce : NamedTerms → Option ℕ
+counted_nonce named = if has_count named.terms.qop then Some named.nonce else None
+
+abbrev pub nonce_told : Holding → Option ℕ
+nonce_told h = if scheme_told h.space Digest then option_and_then counted_nonce h.named else None
+
+-- nothing is held, or a Basic or Digest identity of which all is told
+pub record IsReady (h : Holding) : Type 0 where
+  pub space : IsSome h.space
+  pub plain : scheme_told h.space Negotiate ≡ false
+  pub free : h.context ≡ None
+  pub identity : IsSome h.identity
+  pub named : scheme_told h.space Digest ≡ is_some h.named
+
+-- the first target of a route
+abbrev pub target_of : Bool → Target
+target_of proxied = if proxied then Proxy else Server
+
+-- a gift of which nothing is told yet
+abbrev pub bare : Gift → ℕ → Option ℕ → Holding
+bare gift terms epoch = record { gift = gift; terms = terms; preemptive = epoch; context = None; space = None; identity = None; named = None }
+
+-- by the reply to a preemption
+abbrev pub held_first : BookReply → Option Holding → Option Holding
+held_first (Ready gift terms epoch) before = Some (bare gift terms (Some epoch))
+held_first reply before = before
+
+-- WHAT THE BOOK TELLS OF IT
+
+abbrev pub with_space : ProtectionSpace → Holding → Holding
+with_space space h = record h { space = Some space }
+
+abbrev pub with_identity : Login → Holding → Holding
+with_identity identity h = record h { identity = Some identity }
+
+abbrev pub with_named : NamedTerms → Holding → Holding
+with_named named h = record h { named = Some named }
+
+-- the gift that is noted, where the identity is a Basic or Digest one
+abbrev pub gift_told : Holding → Option Gift
+gift_told h = if scheme_told h.space Basic || scheme_told h.space Digest then Some h.gift else None
+
+-- nothing is noted at the end
+abbrev pub closing_by : Outcome → Closing
+closing_by outcome = record { outcome = outcome; proxy = None; server = None }
+
+-- by a choice for the target: its gift, with terms
+abbrev pub held_chosen : Target → Gift → ℕ → Target → Option Holding → Option Holding
+held_chosen t gift terms x before = if same_target x t then Some (bare gift terms None) else before
+
+-- what is held for the target is held no more
+abbrev pub held_rejected : Target → Target → Option Holding → Option Holding
+held_rejected t x before = if same_target x t then None else before
+
+-- what is noted for a target, unless it is the one that is challenged
+abbrev pub unless_it : Target → Target → Option Gift → Option Gift
+unless_it t x gift = if same_target x t then None else gift
+
+-- behind the last challenge of the target what is held for it stays where something decides on it
+abbrev pub held_last : Bool → Target → Target → Option Holding → Option Holding
+held_last decides t x before = if same_target x t then (if decides then before else None) else before

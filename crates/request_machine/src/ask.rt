@@ -1,0 +1,328 @@
+//! Prompts. One that the request leads is asked of the user, and the book is told the answer, or that
+//! the prompt is lost; of one that another request leads the answer is taken.
+
+ghost use Rattle.std.specs.Prelude.{◌≡◌};
+ghost use Rattle.request_machine.specs.Asking.{stage_asked, outcome_lost, unless_told};
+ghost use Rattle.request_machine.specs.Told.{closing_by};
+
+use crate::close::closing_by;
+use crate::machine::Machine;
+use crate::read::challenged_told;
+use crate::stage::{Closing, Prompt, Stage};
+use auth_events::{BookReply, Call, Gift, Loss};
+use auth_runs::{Event, Outcome, Why};
+use auth_text::Identity;
+use link_trait::{AskSeen, Asked, Prompter};
+use spaces::{Space, Target, same_target};
+
+impl Machine {
+    ghost use Rattle.std.specs.Prelude.{◌≡◌, ◌<◌, ◌∷◌, IsTrue, Some, length, not, ◌==◌, List, Option};
+    ghost use Rattle.link_trait.specs.Told.{grown};
+    ghost use Rattle.link_trait.specs.declared.prompts.Ask.{Ask};
+    ghost use Rattle.trace_rule.specs.Settings.{Setting};
+    ghost use Rattle.trace_rule.specs.Traces.{suits};
+    ghost use Rattle.trace_rule.specs.Telling.{prompted};
+    ghost use Rattle.request_machine.specs.Asking.{refused_by};
+    ghost use Rattle.request_machine.specs.Kept.{Ties};
+
+    /// The book made the request lead a prompt.
+    #[tactic(auto, using(crate::proofs::Prompting::led_ties))]
+    pub(crate) fn led(&mut self, target: Target, space: u32, terms: u32, number: u32, ordinal: u32)
+        requires room { length self.old.past < 256 }
+        requires stage { self.old.stage ≡ Stage.Select target space terms }
+        ensures past { self.new.past
+            ≡ Event.Called (Call.Select space terms) (BookReply.Lead number ordinal) ∷ self.old.past }
+        ensures ties { (s : Setting)
+            → IsTrue (suits s self.old.past (Call.Select space terms) (BookReply.Lead number ordinal))
+            → Ties s self.old → Ties s self.new }
+    {
+        self.push(Event::Called {
+            call: Call::Select { space, terms },
+            reply: BookReply::Lead {
+                prompt: number,
+                ordinal,
+            },
+        });
+        self.prompt = number;
+        self.stage = Stage::Ask(
+            Prompt {
+                target,
+                number,
+                space,
+                terms,
+            },
+            ordinal,
+        );
+    }
+
+    /// Keeps the identity that the user gave.
+    fn put_given(&mut self, identity: Identity)
+        ensures { self.new ≡ record self.old { given = Some identity } }
+    {
+        self.given = Some(identity);
+    }
+
+    /// The user was asked.
+    fn asked(&mut self, prompt: Prompt, ordinal: u32, given: AskSeen)
+        requires room { length self.old.past < 256 }
+        requires stage { self.old.stage ≡ Stage.Ask prompt ordinal }
+        ensures past { self.new.past ≡ Event.AskedFor prompt.number given ∷ self.old.past }
+        ensures ties { (s : Setting) → Ties s self.old → Ties s self.new }
+    {
+        self.push(Event::AskedFor {
+            prompt: prompt.number,
+            given,
+        });
+        self.stage = stage_asked(prompt, given);
+    }
+
+    /// Asks the user for an identity.
+    #[tactic(auto, using(crate::proofs::Prompting::given_kept_ties))]
+    pub(crate) fn ask<P: Prompter>(
+        &mut self,
+        prompter: &mut P,
+        prompt: Prompt,
+        ordinal: u32,
+        space: &Space,
+    )
+        requires room { length self.old.past < 256 }
+        requires stage { self.old.stage ≡ Stage.Ask prompt ordinal }
+        ensures ties { (s : Setting) → Ties s self.old → Ties s self.new }
+        ensures prompted { (s : Setting) (before : Option (List Ask)) → Ties s self.old
+            → s.space_of prompt.space ≡ Some space.now
+            → P.told prompter.old ≡ grown before (prompted s self.old.past)
+            → P.told prompter.new ≡ grown before (prompted s self.new.past) }
+        ensures answers { P.answers prompter.new ≡ P.answers prompter.old }
+    {
+        match prompter.ask(space, ordinal) {
+            Asked::Given(identity) => {
+                self.asked(prompt, ordinal, AskSeen::Given);
+                self.put_given(identity);
+            }
+            Asked::Cancel => self.asked(prompt, ordinal, AskSeen::Cancel),
+            Asked::Failed => {
+                let count = prompter.faults();
+                self.asked(prompt, ordinal, AskSeen::Failed(count));
+            }
+            Asked::NoMemory => self.asked(prompt, ordinal, AskSeen::NoMemory),
+        }
+    }
+
+    /// The identity that the user gave has a number.
+    #[tactic(auto, using(crate::proofs::Prompting::text_named_ties))]
+    pub(crate) fn text_named(&mut self, prompt: Prompt, text: u32)
+        requires stage { self.old.stage ≡ Stage.NameText prompt }
+        requires text { IsTrue (not (text == 0)) }
+        ensures ties { (s : Setting) → Ties s self.old → Ties s self.new }
+    {
+        self.stage = Stage::Answer(prompt, text);
+    }
+
+    /// The book made a gift of the answer.
+    pub(crate) fn given(&mut self, prompt: Prompt, text: u32, gift: Gift, evicted: u32)
+        requires room { length self.old.past < 256 }
+        requires stage { self.old.stage ≡ Stage.Answer prompt text }
+        ensures past { self.new.past
+            ≡ Event.Called (Call.Answer prompt.number text prompt.terms) (BookReply.Given gift evicted) ∷ self.old.past }
+        ensures ties { (s : Setting)
+            → IsTrue (suits s self.old.past (Call.Answer prompt.number text prompt.terms)
+            (BookReply.Given gift evicted))
+            → Ties s self.old → Ties s self.new }
+    {
+        self.push(Event::Called {
+            call: Call::Answer {
+                prompt: prompt.number,
+                text,
+                terms: prompt.terms,
+            },
+            reply: BookReply::Given { gift, evicted },
+        });
+        self.hold(prompt.target, gift, prompt.terms);
+        self.prompt = 0;
+        self.stage = Stage::Go;
+    }
+
+    /// How the request closes where it is refused: it notes what the last head carried for the target
+    /// that the last reply doesn't challenge.
+    fn refused_by(&self, why: Why) -> Closing
+        ensures { result ≡ refused_by self.now why }
+    {
+        let challenged = challenged_told(self.is_proxied, self.code);
+        Closing {
+            outcome: Outcome::Refused(self.code, why),
+            proxy: unless_told(challenged, Target::Proxy, self.noted_proxy),
+            server: unless_told(challenged, Target::Server, self.noted_server),
+        }
+    }
+
+    /// The book was told that the user cancelled.
+    pub(crate) fn cancelled(&mut self, prompt: Prompt)
+        requires room { length self.old.past < 256 }
+        requires stage { self.old.stage ≡ Stage.Cancel prompt }
+        ensures past { self.new.past
+            ≡ Event.Called (Call.Answer prompt.number 0 prompt.terms) BookReply.Cancelled ∷ self.old.past }
+        ensures ties { (s : Setting)
+            → IsTrue (suits s self.old.past (Call.Answer prompt.number 0 prompt.terms)
+            BookReply.Cancelled)
+            → Ties s self.old → Ties s self.new }
+    {
+        let closing = self.refused_by(Why::Cancelled(prompt.number));
+        self.push(Event::Called {
+            call: Call::Answer {
+                prompt: prompt.number,
+                text: 0,
+                terms: prompt.terms,
+            },
+            reply: BookReply::Cancelled,
+        });
+        self.prompt = 0;
+        self.stage = Stage::Close(closing);
+    }
+
+    /// The book was told that the prompt is lost.
+    pub(crate) fn prompt_failed(&mut self, prompt: Prompt, loss: Loss, told: Loss)
+        requires room { length self.old.past < 256 }
+        requires stage { self.old.stage ≡ Stage.Lose prompt loss }
+        ensures past { self.new.past
+            ≡ Event.Called (Call.Lose prompt.number loss) (BookReply.Lost told) ∷ self.old.past }
+        ensures ties { (s : Setting)
+            → IsTrue (suits s self.old.past (Call.Lose prompt.number loss) (BookReply.Lost told))
+            → Ties s self.old → Ties s self.new }
+    {
+        self.push(Event::Called {
+            call: Call::Lose {
+                prompt: prompt.number,
+                loss,
+            },
+            reply: BookReply::Lost { loss: told },
+        });
+        self.prompt = 0;
+        self.stage = Stage::Close(closing_lost(told));
+    }
+
+    /// The book made the request follow a prompt.
+    #[tactic(auto, using(crate::proofs::Prompting::followed_ties))]
+    pub(crate) fn followed(&mut self, target: Target, space: u32, terms: u32, number: u32)
+        requires room { length self.old.past < 256 }
+        requires stage { self.old.stage ≡ Stage.Select target space terms }
+        ensures past { self.new.past
+            ≡ Event.Called (Call.Select space terms) (BookReply.Follow number) ∷ self.old.past }
+        ensures ties { (s : Setting)
+            → IsTrue (suits s self.old.past (Call.Select space terms) (BookReply.Follow number))
+            → Ties s self.old → Ties s self.new }
+    {
+        self.push(Event::Called {
+            call: Call::Select { space, terms },
+            reply: BookReply::Follow { prompt: number },
+        });
+        self.stage = Stage::Take(Prompt {
+            target,
+            number,
+            space,
+            terms,
+        });
+    }
+
+    /// The prompt that the request follows gave a gift.
+    pub(crate) fn taken(&mut self, prompt: Prompt, gift: Gift)
+        requires room { length self.old.past < 256 }
+        requires stage { self.old.stage ≡ Stage.Take prompt }
+        ensures past { self.new.past
+            ≡ Event.Called (Call.Take prompt.number) (BookReply.Gave gift) ∷ self.old.past }
+        ensures ties { (s : Setting)
+            → IsTrue (suits s self.old.past (Call.Take prompt.number) (BookReply.Gave gift))
+            → Ties s self.old → Ties s self.new }
+    {
+        self.push(Event::Called {
+            call: Call::Take {
+                prompt: prompt.number,
+            },
+            reply: BookReply::Gave { gift },
+        });
+        self.hold(prompt.target, gift, prompt.terms);
+        self.stage = Stage::Go;
+    }
+
+    /// The prompt that the request follows was cancelled.
+    pub(crate) fn not_taken(&mut self, prompt: Prompt)
+        requires room { length self.old.past < 256 }
+        requires stage { self.old.stage ≡ Stage.Take prompt }
+        ensures past { self.new.past
+            ≡ Event.Called (Call.Take prompt.number) BookReply.Cancelled ∷ self.old.past }
+        ensures ties { (s : Setting)
+            → IsTrue (suits s self.old.past (Call.Take prompt.number) BookReply.Cancelled)
+            → Ties s self.old → Ties s self.new }
+    {
+        let closing = self.refused_by(Why::Cancelled(prompt.number));
+        self.push(Event::Called {
+            call: Call::Take {
+                prompt: prompt.number,
+            },
+            reply: BookReply::Cancelled,
+        });
+        self.stage = Stage::Close(closing);
+    }
+
+    /// The prompt that the request follows was lost.
+    pub(crate) fn lost_with_it(&mut self, prompt: Prompt, loss: Loss)
+        requires room { length self.old.past < 256 }
+        requires stage { self.old.stage ≡ Stage.Take prompt }
+        ensures past { self.new.past
+            ≡ Event.Called (Call.Take prompt.number) (BookReply.Lost loss) ∷ self.old.past }
+        ensures ties { (s : Setting)
+            → IsTrue (suits s self.old.past (Call.Take prompt.number) (BookReply.Lost loss))
+            → Ties s self.old → Ties s self.new }
+    {
+        self.push(Event::Called {
+            call: Call::Take {
+                prompt: prompt.number,
+            },
+            reply: BookReply::Lost { loss },
+        });
+        self.stage = Stage::Close(closing_lost(loss));
+    }
+}
+
+/// Where a request stands by what the prompter gave.
+fn stage_asked(prompt: Prompt, given: AskSeen) -> Stage
+    ensures { result ≡ stage_asked prompt given }
+{
+    match given {
+        AskSeen::Given => Stage::NameText(prompt),
+        AskSeen::Cancel => Stage::Cancel(prompt),
+        AskSeen::Failed(count) => Stage::Lose(prompt, Loss::Fault(count)),
+        AskSeen::NoMemory => Stage::Lose(prompt, Loss::Memory),
+    }
+}
+
+fn outcome_lost(loss: Loss) -> Outcome
+    ensures { result ≡ outcome_lost loss }
+{
+    match loss {
+        Loss::Fault(count) => Outcome::PromptFailed(count),
+        Loss::Memory => Outcome::NoMemory,
+    }
+}
+
+/// How a request closes behind a lost prompt.
+fn closing_lost(loss: Loss) -> Closing
+    ensures { result ≡ closing_by (outcome_lost loss) }
+{
+    closing_by(outcome_lost(loss))
+}
+
+/// What is noted for a target, unless it is challenged.
+fn unless_told(challenged: Option<Target>, target: Target, gift: Option<Gift>) -> Option<Gift>
+    ensures { result ≡ unless_told challenged target gift }
+{
+    match challenged {
+        Some(challenged) => {
+            if same_target(target, challenged) {
+                None
+            } else {
+                gift
+            }
+        }
+        None => gift,
+    }
+}

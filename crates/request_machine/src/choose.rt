@@ -1,0 +1,175 @@
+//! The choice of an identity for a challenge, and the rejection of one that was held.
+
+ghost use Rattle.std.specs.Prelude.{◌≡◌, None};
+ghost use Rattle.request_machine.specs.Told.{unless_it};
+
+use crate::known::bare;
+use crate::machine::Machine;
+use crate::stage::{Closing, Stage};
+use auth_events::{BookReply, Call, Gift};
+use auth_runs::{Event, Outcome, Why};
+use spaces::{Target, same_target};
+
+impl Machine {
+    ghost use Rattle.std.specs.Prelude.{◌≡◌, ◌∷◌, ◌<◌, IsTrue, Some, None, length};
+    ghost use Rattle.trace_rule.specs.Settings.{Setting};
+    ghost use Rattle.trace_rule.specs.Traces.{suits};
+    ghost use Rattle.request_machine.specs.Kept.{Ties};
+    ghost use Rattle.request_machine.specs.Told.{held_chosen, held_rejected};
+    ghost use Rattle.request_machine.specs.Chosen.{IsChosen};
+    ghost use Rattle.trace_rule.specs.Settings.{target_is};
+    ghost use Rattle.trace_rule.specs.Moves.{space_offered, terms_offered};
+    ghost use Rattle.trace_rule.specs.Challenges.{Offer};
+    ghost use Rattle.spaces.specs.Sites.{same_target};
+    ghost use Rattle.wire_head.specs.declared.reply.Reply.{Reply};
+
+    /// No challenge can be answered.
+    #[tactic(auto, using(crate::proofs::Choosing::refused_ties))]
+    pub(crate) fn refuse(&mut self, code: u16, target: Target)
+        requires stage { self.old.stage ≡ Stage.Choose }
+        ensures ties { (s : Setting) (reply : Reply) → reply.code ≡ code
+            → IsChosen s self.old.past reply target None → Ties s self.old → Ties s self.new }
+    {
+        let closing = Closing {
+            outcome: Outcome::Refused(code, Why::NoChallenge),
+            proxy: unless_it(target, Target::Proxy, self.noted_proxy),
+            server: unless_it(target, Target::Server, self.noted_server),
+        };
+        self.stage = Stage::Close(closing);
+    }
+
+    /// The book is asked for an identity for the target.
+    #[tactic(auto, using(crate::proofs::Choosing::selects_ties))]
+    pub(crate) fn select(&mut self, target: Target, space: u32, terms: u32)
+        requires stage { self.old.stage ≡ Stage.Choose }
+        ensures ties { (s : Setting) (reply : Reply) (offered : Offer)
+            → IsChosen s self.old.past reply target (Some offered)
+            → space_offered s target offered ≡ Some space
+            → terms_offered s space offered.terms ≡ Some terms → ((x : Target)
+            → target_is s space x ≡ same_target x target) → Ties s self.old → Ties s self.new }
+    {
+        self.stage = Stage::Select(target, space, terms);
+    }
+
+    /// The gift is held for the target.
+    pub(crate) fn hold(&mut self, target: Target, gift: Gift, terms: u32)
+        ensures { self.new
+            ≡ record self.old {
+              proxy = held_chosen target gift terms Target.Proxy self.old.proxy;
+              server = held_chosen target gift terms Target.Server self.old.server;
+            } }
+    {
+        match target {
+            Target::Proxy => self.hold_proxy(Some(bare(gift, terms))),
+            Target::Server => self.hold_server(Some(bare(gift, terms))),
+            Target::Socks => (),
+        }
+    }
+
+    /// The book chose a gift of the space.
+    pub(crate) fn cached(&mut self, target: Target, space: u32, terms: u32, gift: Gift)
+        requires room { length self.old.past < 256 }
+        requires stage { self.old.stage ≡ Stage.Select target space terms }
+        ensures past { self.new.past
+            ≡ Event.Called (Call.Select space terms) (BookReply.Cached gift) ∷ self.old.past }
+        ensures ties { (s : Setting)
+            → IsTrue (suits s self.old.past (Call.Select space terms) (BookReply.Cached gift))
+            → Ties s self.old → Ties s self.new }
+    {
+        self.push(Event::Called {
+            call: Call::Select { space, terms },
+            reply: BookReply::Cached { gift },
+        });
+        self.hold(target, gift, terms);
+        self.stage = Stage::Go;
+    }
+
+    /// The URL's identity is a gift of the space.
+    pub(crate) fn given_by_url(
+        &mut self,
+        target: Target,
+        space: u32,
+        terms: u32,
+        gift: Gift,
+        evicted: u32,
+    )
+        requires room { length self.old.past < 256 }
+        requires stage { self.old.stage ≡ Stage.Select target space terms }
+        ensures past { self.new.past
+            ≡ Event.Called (Call.Select space terms) (BookReply.Url gift evicted) ∷ self.old.past }
+        ensures ties { (s : Setting)
+            → IsTrue (suits s self.old.past (Call.Select space terms) (BookReply.Url gift evicted))
+            → Ties s self.old → Ties s self.new }
+    {
+        self.push(Event::Called {
+            call: Call::Select { space, terms },
+            reply: BookReply::Url { gift, evicted },
+        });
+        self.hold(target, gift, terms);
+        self.stage = Stage::Go;
+    }
+
+    /// The provider's default identity is chosen.
+    pub(crate) fn default_chosen(&mut self, target: Target, space: u32, terms: u32)
+        requires room { length self.old.past < 256 }
+        requires stage { self.old.stage ≡ Stage.Select target space terms }
+        ensures past { self.new.past
+            ≡ Event.Called (Call.Select space terms) BookReply.Default ∷ self.old.past }
+        ensures ties { (s : Setting)
+            → IsTrue (suits s self.old.past (Call.Select space terms) BookReply.Default)
+            → Ties s self.old → Ties s self.new }
+    {
+        self.push(Event::Called {
+            call: Call::Select { space, terms },
+            reply: BookReply::Default,
+        });
+        self.hold(target, Gift { space, ordinal: 0 }, 0);
+        self.stage = Stage::Go;
+    }
+
+    /// What was held for the target was rejected.
+    pub(crate) fn rejected(&mut self, target: Target, gift: Gift, reply: BookReply)
+        requires room { length self.old.past < 256 }
+        requires stage { self.old.stage ≡ Stage.Reject target gift }
+        ensures past { self.new.past
+            ≡ Event.Called (Call.Reject gift.space gift.ordinal) reply ∷ self.old.past }
+        ensures ties { (s : Setting)
+            → IsTrue (suits s self.old.past (Call.Reject gift.space gift.ordinal) reply)
+            → Ties s self.old → Ties s self.new }
+    {
+        self.push(Event::Called {
+            call: Call::Reject {
+                space: gift.space,
+                ordinal: gift.ordinal,
+            },
+            reply,
+        });
+        self.drop_held(target);
+        self.stage = Stage::Choose;
+    }
+
+    pub(crate) fn drop_held(&mut self, target: Target)
+        ensures { self.new
+            ≡ record self.old {
+              proxy = held_rejected target Target.Proxy self.old.proxy;
+              server = held_rejected target Target.Server self.old.server;
+            } }
+    {
+        match target {
+            Target::Proxy => self.hold_proxy(None),
+            Target::Server => self.hold_server(None),
+            Target::Socks => (),
+        }
+    }
+}
+
+/// What is noted for a target, unless it is the one that is challenged.
+pub(crate) fn unless_it(challenged: Target, target: Target, gift: Option<Gift>) -> Option<Gift>
+    ensures { result ≡ unless_it challenged target gift }
+{
+    if same_target(target, challenged) {
+        None
+    } else {
+        gift
+    }
+}

@@ -1,0 +1,337 @@
+//! What the caller tells a machine: the book's reply to a call, what the book has of what is held, a
+//! number, or a count. It takes no memory.
+
+ghost use Rattle.std.specs.Prelude.{◌≡◌};
+
+use crate::holding::{Holding, NamedTerms};
+use crate::known::{with_identity, with_named, with_space};
+use crate::machine::Machine;
+use crate::stage::{Closing, Piece, Prompt, Stage};
+use auth_events::{BookReply, Call, Drawn, Loss, TermsRef};
+use auth_runs::Event;
+use auth_text::Identity;
+use spaces::{Space, Target, Terms};
+
+/// The answer to a need.
+#[derive(Debug, Drop)]
+pub enum Gave {
+    /// The book's reply to the call.
+    Reply(BookReply),
+    /// The number of the space or of the text.
+    Number(u32),
+    /// The numbers of the terms and of their nonce.
+    Ref(TermsRef),
+    /// The identity that the gift stands for.
+    Identity(Identity),
+    /// The terms of that number, and the number of their nonce.
+    Terms(Terms, u32),
+    /// The space of that number.
+    Space(Space),
+    /// The count that was drawn.
+    Drawn(Drawn),
+    /// There was no memory.
+    NoMemory,
+}
+
+impl Machine {
+    ghost use Rattle.std.specs.Prelude.{◌≡◌, ◌<◌, ◌∷◌, [], IsTrue, length, None, option_map};
+    ghost use Rattle.trace_rule.specs.Settings.{Setting};
+    ghost use Rattle.auth_events.specs.Pages.{fits};
+    ghost use Rattle.trace_rule.specs.Traces.{suits};
+    ghost use Rattle.request_machine.specs.Changed.{holding, put_held};
+    ghost use Rattle.request_machine.specs.Gives.{IsReplyTo, IsTold, IsSpaceTold, IsIdentityTold, IsTermsTold};
+    ghost use Rattle.request_machine.specs.Gives.{is_given, is_cancelled, is_heard, call_at, IsHeardIn};
+    ghost use Rattle.request_machine.specs.Kept.{Ties};
+    ghost use Rattle.request_machine.specs.Needs.{first_left};
+
+    /// What is held for the target; then nothing is.
+    fn take(&mut self, target: Target) -> Option<Holding>
+        ensures value { result ≡ holding self.old target }
+        ensures rest { self.new ≡ put_held target None self.old }
+    {
+        match target {
+            Target::Proxy => self.take_proxy(),
+            Target::Server => self.take_server(),
+            Target::Socks => None,
+        }
+    }
+
+    /// The book told the space of what is held.
+    fn told_space(&mut self, target: Target, space: Space)
+        requires stage { self.old.stage ≡ Stage.Learn target Piece.Space }
+        ensures ties { (s : Setting) → IsSpaceTold s self.old target space
+            → Ties s self.old → Ties s self.new }
+    {
+        let before = self.take(target);
+        self.put(target, with_space(before, space));
+        self.stage = Stage::Go;
+    }
+
+    /// The book told the identity of what is held.
+    fn told_identity(&mut self, target: Target, identity: Identity)
+        requires stage { self.old.stage ≡ Stage.Learn target Piece.Identity }
+        ensures ties { (s : Setting) → IsIdentityTold s self.old target identity
+            → Ties s self.old → Ties s self.new }
+    {
+        let before = self.take(target);
+        self.put(target, with_identity(before, identity));
+        self.stage = Stage::Go;
+    }
+
+    /// The book told the terms of what is held.
+    fn told_terms(&mut self, target: Target, named: NamedTerms)
+        requires stage { self.old.stage ≡ Stage.Learn target Piece.Terms }
+        ensures ties { (s : Setting) → IsTermsTold s self.old target named
+            → Ties s self.old → Ties s self.new }
+    {
+        let before = self.take(target);
+        self.put(target, with_named(before, named));
+        self.stage = Stage::Go;
+    }
+
+    /// The book replied to one of the first calls.
+    fn replied_first(&mut self, call: Call, reply: BookReply)
+        requires room { length self.old.past < 256 }
+        requires stage { self.old.stage ≡ Stage.Call call }
+        ensures past { IsTrue (is_heard self.old.stage reply)
+            → self.new.past ≡ Event.Called call reply ∷ self.old.past }
+        ensures ties { (s : Setting) → IsTrue (suits s self.old.past call reply)
+            → Ties s self.old → Ties s self.new }
+    {
+        match call {
+            Call::Begin => self.begun(reply),
+            Call::Preempt {
+                target: Target::Proxy,
+            } => self.preempted_proxy(reply),
+            Call::Preempt {
+                target: Target::Server,
+            } => self.preempted_server(reply),
+            _ => (),
+        }
+    }
+
+    /// The book chose. A reply that fits no choice changes nothing.
+    fn selected(&mut self, target: Target, space: u32, terms: u32, reply: BookReply)
+        requires room { length self.old.past < 256 }
+        requires stage { self.old.stage ≡ Stage.Select target space terms }
+        ensures past { IsTrue (fits (Call.Select space terms) reply)
+            → self.new.past ≡ Event.Called (Call.Select space terms) reply ∷ self.old.past }
+        ensures ties { (s : Setting) → IsTrue (suits s self.old.past (Call.Select space terms) reply)
+            → Ties s self.old → Ties s self.new }
+    {
+        match reply {
+            BookReply::Url { gift, evicted } => {
+                self.given_by_url(target, space, terms, gift, evicted);
+            }
+            BookReply::Cached { gift } => self.cached(target, space, terms, gift),
+            BookReply::Default => self.default_chosen(target, space, terms),
+            BookReply::Lead { prompt, ordinal } => self.led(target, space, terms, prompt, ordinal),
+            BookReply::Follow { prompt } => self.followed(target, space, terms, prompt),
+            _ => (),
+        }
+    }
+
+    /// The book replied to the answer of a prompt.
+    fn replied_to_answer(&mut self, prompt: Prompt, text: u32, reply: BookReply)
+        requires room { length self.old.past < 256 }
+        requires stage { self.old.stage ≡ Stage.Answer prompt text }
+        ensures past { IsTrue (is_given reply)
+            → self.new.past
+            ≡ Event.Called (Call.Answer prompt.number text prompt.terms) reply ∷ self.old.past }
+        ensures ties { (s : Setting)
+            → IsTrue (suits s self.old.past (Call.Answer prompt.number text prompt.terms) reply)
+            → Ties s self.old → Ties s self.new }
+    {
+        match reply {
+            BookReply::Given { gift, evicted } => self.given(prompt, text, gift, evicted),
+            _ => (),
+        }
+    }
+
+    /// The book replied that a prompt is cancelled.
+    fn replied_to_cancel(&mut self, prompt: Prompt, reply: BookReply)
+        requires room { length self.old.past < 256 }
+        requires stage { self.old.stage ≡ Stage.Cancel prompt }
+        ensures past { IsTrue (is_cancelled reply)
+            → self.new.past
+            ≡ Event.Called (Call.Answer prompt.number 0 prompt.terms) reply ∷ self.old.past }
+        ensures ties { (s : Setting)
+            → IsTrue (suits s self.old.past (Call.Answer prompt.number 0 prompt.terms) reply)
+            → Ties s self.old → Ties s self.new }
+    {
+        match reply {
+            BookReply::Cancelled => self.cancelled(prompt),
+            _ => (),
+        }
+    }
+
+    /// The book replied that a prompt is lost.
+    fn replied_to_loss(&mut self, prompt: Prompt, loss: Loss, reply: BookReply)
+        requires room { length self.old.past < 256 }
+        requires stage { self.old.stage ≡ Stage.Lose prompt loss }
+        ensures past { IsTrue (fits (Call.Lose prompt.number loss) reply)
+            → self.new.past ≡ Event.Called (Call.Lose prompt.number loss) reply ∷ self.old.past }
+        ensures ties { (s : Setting)
+            → IsTrue (suits s self.old.past (Call.Lose prompt.number loss) reply)
+            → Ties s self.old → Ties s self.new }
+    {
+        match reply {
+            BookReply::Lost { loss: told } => self.prompt_failed(prompt, loss, told),
+            _ => (),
+        }
+    }
+
+    /// The book told how the prompt ended that the request follows.
+    fn took(&mut self, prompt: Prompt, reply: BookReply)
+        requires room { length self.old.past < 256 }
+        requires stage { self.old.stage ≡ Stage.Take prompt }
+        ensures past { IsTrue (fits (Call.Take prompt.number) reply)
+            → self.new.past ≡ Event.Called (Call.Take prompt.number) reply ∷ self.old.past }
+        ensures ties { (s : Setting) → IsTrue (suits s self.old.past (Call.Take prompt.number) reply)
+            → Ties s self.old → Ties s self.new }
+    {
+        match reply {
+            BookReply::Gave { gift } => self.taken(prompt, gift),
+            BookReply::Cancelled => self.not_taken(prompt),
+            BookReply::Lost { loss } => self.lost_with_it(prompt, loss),
+            _ => (),
+        }
+    }
+
+    /// The book replied to the first of the calls that were left.
+    fn closed(&mut self, closing: Closing, reply: BookReply)
+        requires room { length self.old.past < 256 }
+        requires stage { self.old.stage ≡ Stage.Close closing }
+        ensures past { self.new.past
+            ≡ Event.Called (first_left closing.proxy closing.server) reply ∷ self.old.past }
+        ensures ties { (s : Setting)
+            → IsTrue (suits s self.old.past (first_left closing.proxy closing.server) reply)
+            → Ties s self.old → Ties s self.new }
+    {
+        let Closing {
+            outcome,
+            proxy,
+            server,
+        } = closing;
+        if let Some(gift) = proxy {
+            let rest = Closing {
+                outcome,
+                proxy: None,
+                server,
+            };
+            self.noted(closing, rest, gift, reply);
+        } else if let Some(gift) = server {
+            let rest = Closing {
+                outcome,
+                proxy: None,
+                server: None,
+            };
+            self.noted(closing, rest, gift, reply);
+        } else {
+            self.ended(closing, reply);
+        }
+    }
+
+    /// The book replied where memory had run out.
+    fn replied_spent(&mut self)
+        requires room { length self.old.past < 256 }
+        requires stage { self.old.stage ≡ Stage.Spent }
+        ensures ties { (s : Setting) → Ties s self.old → Ties s self.new }
+    {
+        if self.prompt == 0 {
+            self.spent_end();
+        } else {
+            self.prompt_lost();
+        }
+    }
+
+    /// The book replied to the call that was asked for.
+    fn replied_to(&mut self, reply: BookReply)
+        requires room { length self.old.past < 256 }
+        ensures past { IsTrue (is_heard self.old.stage reply)
+            → self.new.past ≡ Event.Called (call_at self.old.stage) reply ∷ self.old.past }
+        ensures ties { (s : Setting) → IsReplyTo s self.old self.old.stage reply
+            → Ties s self.old → Ties s self.new }
+    {
+        match self.stage {
+            Stage::Call(call) => self.replied_first(call, reply),
+            Stage::Select(target, space, terms) => self.selected(target, space, terms, reply),
+            Stage::Answer(prompt, text) => self.replied_to_answer(prompt, text, reply),
+            Stage::Cancel(prompt) => self.replied_to_cancel(prompt, reply),
+            Stage::Lose(prompt, loss) => self.replied_to_loss(prompt, loss, reply),
+            Stage::Take(prompt) => self.took(prompt, reply),
+            Stage::Reject(target, gift) => self.rejected(target, gift, reply),
+            Stage::Close(closing) => self.closed(closing, reply),
+            Stage::Spent => self.replied_spent(),
+            Stage::SpentEnd => self.lost_end(),
+            _ => (),
+        }
+    }
+
+    /// A count was drawn.
+    fn drew(&mut self, drawn: Drawn)
+        requires room { length self.old.past < 256 }
+        ensures ties { (s : Setting) → Ties s self.old → Ties s self.new }
+    {
+        match self.stage {
+            Stage::Draw(Target::Proxy, nonce) => self.drew_proxy(nonce, drawn),
+            Stage::Draw(Target::Server, nonce) => self.drew_server(nonce, drawn),
+            _ => (),
+        }
+    }
+
+    /// There was no memory to tell it.
+    fn not_told(&mut self)
+        ensures ties { (s : Setting) → Ties s self.old → Ties s self.new }
+    {
+        match self.stage {
+            Stage::Learn(_, _) => self.spend(),
+            Stage::NameText(_) => self.spend(),
+            _ => (),
+        }
+    }
+
+    /// A text has a number, which is never 0.
+    fn numbered(&mut self, number: u32)
+        ensures ties { (s : Setting) → Ties s self.old → Ties s self.new }
+    {
+        if number == 0 {
+            return;
+        }
+        match self.stage {
+            Stage::NameText(prompt) => self.text_named(prompt, number),
+            _ => (),
+        }
+    }
+
+    /// Goes on with what the caller tells of the last need. What answers no need of the stage changes
+    /// nothing.
+    pub fn gave(&mut self, gave: Gave)
+        requires room { length self.old.past < 256 }
+        ensures past { IsHeardIn self.old.stage gave self.old.past self.new.past }
+        ensures ties { (s : Setting) → IsTold s self.old self.old.stage gave
+            → Ties s self.old → Ties s self.new }
+    {
+        match gave {
+            Gave::Reply(reply) => self.replied_to(reply),
+            Gave::Number(number) => self.numbered(number),
+            Gave::Ref(_) => (),
+            Gave::Identity(identity) => match self.stage {
+                Stage::Learn(target, Piece::Identity) => self.told_identity(target, identity),
+                _ => (),
+            },
+            Gave::Terms(terms, nonce) => match self.stage {
+                Stage::Learn(target, Piece::Terms) => {
+                    self.told_terms(target, NamedTerms { terms, nonce });
+                }
+                _ => (),
+            },
+            Gave::Space(space) => match self.stage {
+                Stage::Learn(target, Piece::Space) => self.told_space(target, space),
+                _ => (),
+            },
+            Gave::Drawn(drawn) => self.drew(drawn),
+            Gave::NoMemory => self.not_told(),
+        }
+    }
+}

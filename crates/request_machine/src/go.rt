@@ -1,0 +1,242 @@
+//! The way to the next head: what the book is to tell of what is held, the link, and the counts that
+//! are drawn for it.
+
+ghost use Rattle.std.specs.Prelude.{◌≡◌, unwrap_or, None, IfSome};
+ghost use Rattle.request_machine.specs.Heads.{nonce_next};
+ghost use Rattle.request_machine.specs.Told.{IsReady};
+
+use crate::close::closing_by;
+use crate::holding::Holding;
+use crate::known::{kept_drew, nonce_next, readiness};
+use crate::machine::Machine;
+use crate::stage::{Piece, Stage};
+use auth_events::Drawn;
+use auth_runs::{Event, Outcome};
+use connection_binding::{DialEnd, FreeLink};
+use link_trait::{Dialer, LinkName};
+use spaces::{Origin, Request, Target};
+use std::alloc::Global;
+
+impl Machine {
+    ghost use Rattle.std.specs.Prelude.{◌≡◌, ◌<◌, ◌∷◌, IfSome, Some, None, length, false, true, ◌+◌, List, Option};
+    ghost use Rattle.trace_rule.specs.Settings.{Setting};
+    ghost use Rattle.trace_rule.specs.Telling.{dials};
+    ghost use Rattle.link_trait.specs.Told.{grown};
+    ghost use Rattle.link_trait.specs.Links.{has_link, IsUndialed};
+    ghost use Rattle.link_trait.specs.declared.dialer.Dial.{Dial};
+    ghost use Rattle.request_machine.specs.Kept.{Ties, IsLinkAsDialed};
+    ghost use Rattle.request_machine.specs.Turns.{next_link};
+
+    /// The next link was dialed.
+    #[tactic(auto, using(crate::proofs::Sending::dialed_ties))]
+    pub(crate) fn dialed(&mut self)
+        requires room { length self.old.past < 256 }
+        requires few { self.old.links < 256 }
+        requires stage { self.old.stage ≡ Stage.Go }
+        requires undialed { self.old.is_dialed ≡ false }
+        requires proxy { IfSome self.old.proxy IsReady }
+        requires server { IfSome self.old.server IsReady }
+        ensures past { self.new.past ≡ Event.Dialed (self.old.links + 1) ∷ self.old.past }
+        ensures link { self.new.link ≡ self.old.link }
+        ensures ties { (s : Setting) → Ties s self.old → Ties s self.new }
+    {
+        let link = self.links + 1;
+        self.push(Event::Dialed { link });
+        self.links = link;
+        self.is_dialed = true;
+    }
+
+    /// The next link could not be dialed.
+    #[tactic(auto, using(crate::proofs::Sending::dial_failed_ties))]
+    pub(crate) fn dial_failed(&mut self, count: u64)
+        requires room { length self.old.past < 256 }
+        requires few { self.old.links < 256 }
+        requires stage { self.old.stage ≡ Stage.Go }
+        requires undialed { self.old.is_dialed ≡ false }
+        requires proxy { IfSome self.old.proxy IsReady }
+        requires server { IfSome self.old.server IsReady }
+        ensures past { self.new.past
+            ≡ Event.DialFailed (self.old.links + 1) count ∷ self.old.past }
+        ensures link { self.new.link ≡ self.old.link }
+        ensures ties { (s : Setting) → Ties s self.old → Ties s self.new }
+    {
+        let link = self.links + 1;
+        self.push(Event::DialFailed { link, count });
+        self.stage = Stage::Close(closing_by(Outcome::LinkFailed(count)));
+    }
+
+    /// Dials the next link.
+    pub(crate) fn dial<D: Dialer>(&mut self, request: &Request, dialer: &mut D)
+        requires room { length self.old.past < 256 }
+        requires few { self.old.links < 256 }
+        requires stage { self.old.stage ≡ Stage.Go }
+        requires undialed { self.old.is_dialed ≡ false }
+        requires proxy { IfSome self.old.proxy IsReady }
+        requires server { IfSome self.old.server IsReady }
+        requires link { self.old.link ≡ None }
+        requires closed { has_link (next_link self.old) (D.opened dialer.old) ≡ false }
+        requires fresh { IsUndialed (next_link self.old) (D.dials dialer.old) }
+        ensures ties { (s : Setting) → Ties s self.old → Ties s self.new }
+        ensures dials { (s : Setting) (before : Option (List Dial)) → s.request ≡ request.now
+            → Ties s self.old → D.dials dialer.old ≡ grown before (dials s self.old.past)
+            → D.dials dialer.new ≡ grown before (dials s self.new.past) }
+        ensures traffic { D.traffic dialer.new ≡ D.traffic dialer.old }
+    {
+        let name = LinkName {
+            request: self.number,
+            nth: self.links + 1,
+        };
+        match FreeLink::dial(dialer, name, next_hop(request)) {
+            DialEnd::Link(link) => {
+                self.put_link(link);
+                self.dialed();
+            }
+            DialEnd::Failed { count } => self.dial_failed(count),
+            DialEnd::NoMemory => self.spend(),
+        }
+    }
+
+    /// A count of the nonce is drawn for the proxy next.
+    #[tactic(auto, using(crate::proofs::Drawing::draws_proxy_ties))]
+    pub(crate) fn draws_proxy(&mut self, nonce: u32)
+        requires stage { self.old.stage ≡ Stage.Go }
+        requires dialed { self.old.is_dialed ≡ true }
+        requires proxy { IfSome self.old.proxy IsReady }
+        requires server { IfSome self.old.server IsReady }
+        requires next { nonce_next self.old.drawn_proxy self.old.proxy ≡ Some nonce }
+        ensures past { self.new.past ≡ self.old.past }
+        ensures stage { self.new.stage ≡ Stage.Draw Target.Proxy nonce }
+        ensures ties { (s : Setting) → Ties s self.old → Ties s self.new }
+    {
+        self.stage = Stage::Draw(Target::Proxy, nonce);
+    }
+
+    /// A count of the nonce is drawn for the server next.
+    #[tactic(auto, using(crate::proofs::Drawing::draws_server_ties))]
+    pub(crate) fn draws_server(&mut self, nonce: u32)
+        requires stage { self.old.stage ≡ Stage.Go }
+        requires dialed { self.old.is_dialed ≡ true }
+        requires proxy { IfSome self.old.proxy IsReady }
+        requires server { IfSome self.old.server IsReady }
+        requires none { nonce_next self.old.drawn_proxy self.old.proxy ≡ None }
+        requires next { nonce_next self.old.drawn_server self.old.server ≡ Some nonce }
+        ensures past { self.new.past ≡ self.old.past }
+        ensures stage { self.new.stage ≡ Stage.Draw Target.Server nonce }
+        ensures ties { (s : Setting) → Ties s self.old → Ties s self.new }
+    {
+        self.stage = Stage::Draw(Target::Server, nonce);
+    }
+
+    /// A count was drawn for the proxy.
+    pub(crate) fn drew_proxy(&mut self, nonce: u32, drawn: Drawn)
+        requires room { length self.old.past < 256 }
+        requires stage { self.old.stage ≡ Stage.Draw Target.Proxy nonce }
+        ensures past { self.new.past
+            ≡ Event.Drew Target.Proxy nonce drawn.count drawn.epoch ∷ self.old.past }
+        ensures ties { (s : Setting) → Ties s self.old → Ties s self.new }
+    {
+        self.push(Event::Drew {
+            target: Target::Proxy,
+            nonce,
+            count: drawn.count,
+            epoch: drawn.epoch,
+        });
+        let before = self.take_proxy();
+        self.hold_proxy(kept_drew(drawn.epoch, before));
+        self.drawn_proxy = Some(drawn.count);
+        self.stage = Stage::Go;
+    }
+
+    /// A count was drawn for the server.
+    pub(crate) fn drew_server(&mut self, nonce: u32, drawn: Drawn)
+        requires room { length self.old.past < 256 }
+        requires stage { self.old.stage ≡ Stage.Draw Target.Server nonce }
+        ensures past { self.new.past
+            ≡ Event.Drew Target.Server nonce drawn.count drawn.epoch ∷ self.old.past }
+        ensures ties { (s : Setting) → Ties s self.old → Ties s self.new }
+    {
+        self.push(Event::Drew {
+            target: Target::Server,
+            nonce,
+            count: drawn.count,
+            epoch: drawn.epoch,
+        });
+        let before = self.take_server();
+        self.hold_server(kept_drew(drawn.epoch, before));
+        self.drawn_server = Some(drawn.count);
+        self.stage = Stage::Go;
+    }
+
+    /// The book is to tell more of what is held.
+    #[tactic(auto, using(crate::proofs::Choosing::learn_ties))]
+    pub(crate) fn learn(&mut self, target: Target, piece: Piece)
+        requires stage { self.old.stage ≡ Stage.Go }
+        ensures past { self.new.past ≡ self.old.past }
+        ensures link { self.new.link ≡ self.old.link }
+        ensures ties { (s : Setting) → Ties s self.old → Ties s self.new }
+    {
+        self.stage = Stage::Learn(target, piece);
+    }
+
+    /// The request can't go on with what is held: the book is to tell more of it, or, so far, it is of
+    /// another scheme.
+    pub(crate) fn lack(&mut self, target: Target, piece: Option<Piece>)
+        requires stage { self.old.stage ≡ Stage.Go }
+        ensures past { self.new.past ≡ self.old.past }
+        ensures link { self.new.link ≡ self.old.link }
+        ensures ties { (s : Setting) → Ties s self.old → Ties s self.new }
+    {
+        match piece {
+            Some(piece) => self.learn(target, piece),
+            None => self.spend(),
+        }
+    }
+
+    /// Goes on to the next head, up to what the book or the words must tell.
+    pub(crate) fn go<D: Dialer>(&mut self, alloc: Global, request: &Request, dialer: &mut D)
+        requires room { length self.old.past < 250 }
+        requires few_links { self.old.links < 256 }
+        requires few_heads { self.old.heads < 256 }
+        requires stage { self.old.stage ≡ Stage.Go }
+        requires link { IsLinkAsDialed self.old.is_dialed self.old.link (D.opened dialer.old) }
+        requires closed { has_link (next_link self.old) (D.opened dialer.old) ≡ false }
+        requires fresh { IsUndialed (next_link self.old) (D.dials dialer.old) }
+        ensures ties { (s : Setting) → s.request ≡ request.now → Ties s self.old
+            → Ties s self.new }
+        ensures dials { (s : Setting) (before : Option (List Dial)) → s.request ≡ request.now
+            → Ties s self.old → D.dials dialer.old ≡ grown before (dials s self.old.past)
+            → D.dials dialer.new ≡ grown before (dials s self.new.past) }
+    {
+        if let Err(piece) = readiness(&self.proxy) {
+            self.lack(Target::Proxy, piece);
+            return;
+        }
+        if let Err(piece) = readiness(&self.server) {
+            self.lack(Target::Server, piece);
+            return;
+        }
+        if !self.is_dialed {
+            self.dial(request, dialer);
+            return;
+        }
+        if let Some(nonce) = nonce_next(self.drawn_proxy, &self.proxy) {
+            self.draws_proxy(nonce);
+            return;
+        }
+        if let Some(nonce) = nonce_next(self.drawn_server, &self.server) {
+            self.draws_server(nonce);
+            return;
+        }
+        self.send(alloc, request, dialer);
+    }
+}
+
+/// Where the request's links go.
+pub(crate) fn next_hop(request: &Request) -> &Origin
+    ensures { result.now ≡ unwrap_or request.now.proxy request.now.place.origin }
+{
+    match &request.proxy {
+        Some(proxy) => proxy,
+        None => &request.place.origin,
+    }
+}

@@ -1,0 +1,35 @@
+//! The machine of one request: what comes next in it, by what has happened. It keeps the request's
+//! events and, in its fields and its stage, what they say by the rule of a request; each change of it
+//! is proved to keep that. The caller gives it what the book, the words and the user tell.
+//!
+//! So far it covers the calls that begin a request, the way to each head with Basic and Digest
+//! identities for both targets, dials, draws and heads, replies over free links, the book's choice,
+//! prompts that are led or followed, rejections, the calls at the end, and want of memory. Still to
+//! come are the reading of which challenge is answered and which decides on what is held, next
+//! nonces, Negotiate, and the one call that drives the whole; where a request meets one of these it
+//! ends as it does for want of memory.
+#![tactic(auto)]
+
+mod ask;
+mod begin;
+mod challenge;
+mod choose;
+mod close;
+mod cut;
+mod fields;
+mod gave;
+mod go;
+mod holding;
+mod known;
+mod machine;
+mod need;
+mod read;
+mod send;
+mod stage;
+mod turn;
+
+pub use gave::Gave;
+pub use holding::{Context, Holding, NamedTerms};
+pub use machine::Machine;
+pub use need::Need;
+pub use stage::{Closing, Piece, Prompt, Stage};

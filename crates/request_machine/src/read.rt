@@ -1,0 +1,199 @@
+//! The reply to a head, and what it asks for. A free link is closed behind each reply.
+
+ghost use Rattle.link_trait.specs.Links.{has_link};
+ghost use Rattle.request_machine.specs.Reads.{IsFitRead};
+ghost use Rattle.std.specs.Prelude.{◌≡◌, None, IfSome, true};
+ghost use Rattle.request_machine.specs.Replies.{challenged_told};
+
+use crate::close::closing_by;
+use crate::machine::Machine;
+use crate::stage::{Closing, Stage};
+use auth_runs::{Event, Outcome, Reply, WireFault};
+use connection_binding::{FreeLink, ReadEnd};
+use link_trait::Dialer;
+use spaces::{Method, Request, Target};
+use std::alloc::Global;
+use wire_head::carried;
+
+impl Machine {
+    ghost use Rattle.std.specs.Prelude.{◌≡◌, ◌<◌, ◌∷◌, [], IfSome, IsTrue, Some, None, length, List, Option};
+    ghost use Rattle.trace_rule.specs.Settings.{Setting};
+    ghost use Rattle.trace_rule.specs.Traces.{can_be};
+    ghost use Rattle.trace_rule.specs.Challenges.{challenged};
+    ghost use Rattle.trace_rule.specs.Telling.{dials};
+    ghost use Rattle.link_trait.specs.Told.{grown};
+    ghost use Rattle.link_trait.specs.Links.{without_link};
+    ghost use Rattle.request_machine.specs.Reads.{IsFitRead};
+    ghost use Rattle.link_trait.specs.declared.dialer.Dial.{Dial};
+    ghost use Rattle.request_machine.specs.Kept.{Ties, IsLinkOpen};
+
+    /// Reads over the open link.
+    pub(crate) fn read_link<D: Dialer>(
+        &mut self,
+        alloc: Global,
+        dialer: &mut D,
+        method: Method,
+    ) -> ReadEnd
+        requires { IsLinkOpen self.old.link (D.opened dialer.old) }
+        ensures fit { IsFitRead result }
+        ensures same { self.new ≡ self.old }
+        ensures dials { D.dials dialer.new ≡ D.dials dialer.old }
+        ensures opened { D.opened dialer.new ≡ D.opened dialer.old }
+    {
+        match &mut self.link {
+            Some(link) => read_over(link, alloc, dialer, method),
+            None => unreachable!(),
+        }
+    }
+
+    /// Closes the open link.
+    pub(crate) fn close_link<D: Dialer>(&mut self, dialer: &mut D)
+        requires { IsLinkOpen self.old.link (D.opened dialer.old) }
+        ensures same { self.new ≡ record self.old { link = None } }
+        ensures dials { D.dials dialer.new ≡ D.dials dialer.old }
+        ensures opened { IfSome self.old.link (λ link. D.opened dialer.new
+            ≡ without_link link (D.opened dialer.old)) }
+    {
+        match self.link.take() {
+            Some(link) => link.spend(dialer),
+            None => unreachable!(),
+        }
+    }
+
+    /// Reads the reply and closes the link.
+    #[tactic(auto, using(crate::proofs::Reading::linked_ties))]
+    pub(crate) fn read<D: Dialer>(
+        &mut self,
+        alloc: Global,
+        request: &Request,
+        dialer: &mut D,
+        link: u32,
+    )
+        requires room { length self.old.past < 250 }
+        requires few_rounds { self.old.rounds < 256 }
+        requires stage { self.old.stage ≡ Stage.Read link }
+        requires open { IsLinkOpen self.old.link (D.opened dialer.old) }
+        ensures ties { (s : Setting) → Ties s self.old → Ties s self.new }
+        ensures dials { (s : Setting) (before : Option (List Dial))
+            → D.dials dialer.old ≡ grown before (dials s self.old.past)
+            → D.dials dialer.new ≡ grown before (dials s self.new.past) }
+    {
+        let end = self.read_link(alloc, dialer, request.method);
+        self.close_link(dialer);
+        match end {
+            ReadEnd::Whole(reply) => self.replied(link, reply),
+            ReadEnd::Broken(fault) => self.broken(link, fault),
+            ReadEnd::Lost => self.spend(),
+            ReadEnd::Failed { count } => self.read_failed(link, count),
+            ReadEnd::NoMemory => self.spend(),
+        }
+    }
+
+    /// The reply could not be read.
+    #[tactic(auto, using(crate::proofs::Ending::read_failed_ties))]
+    pub(crate) fn read_failed(&mut self, link: u32, count: u64)
+        requires room { length self.old.past < 256 }
+        requires stage { self.old.stage ≡ Stage.Read link }
+        ensures past { self.new.past ≡ Event.ReadFailed link count ∷ self.old.past }
+        ensures ties { (s : Setting) → Ties s self.old → Ties s self.new }
+    {
+        self.push(Event::ReadFailed { link, count });
+        self.stage = Stage::Close(closing_by(Outcome::LinkFailed(count)));
+    }
+
+    /// What was read is no reply.
+    #[tactic(auto, using(crate::proofs::Ending::broken_ties))]
+    pub(crate) fn broken(&mut self, link: u32, fault: WireFault)
+        requires room { length self.old.past < 256 }
+        requires stage { self.old.stage ≡ Stage.Read link }
+        ensures past { self.new.past ≡ Event.Broken link fault ∷ self.old.past }
+        ensures ties { (s : Setting) → Ties s self.old → Ties s self.new }
+    {
+        self.push(Event::Broken { link, fault });
+        self.stage = Stage::Close(closing_by(Outcome::BadReply(fault)));
+    }
+
+    /// The reply challenges nobody.
+    #[tactic(auto, using(crate::proofs::Ending::answered_ties))]
+    pub(crate) fn answered(&mut self, link: u32, reply: Reply)
+        requires room { length self.old.past < 256 }
+        requires stage { self.old.stage ≡ Stage.Read link }
+        requires reply { IsTrue (can_be reply) }
+        requires no_proxy { reply.proxy_info ≡ [] }
+        requires no_server { reply.server_info ≡ [] }
+        ensures past { self.new.past ≡ Event.Replied link reply ∷ self.old.past }
+        ensures ties { (s : Setting) → challenged s reply ≡ None → Ties s self.old
+            → Ties s self.new }
+    {
+        let code = reply.code;
+        self.push(Event::Replied { link, reply });
+        self.code = code;
+        self.stage = Stage::Close(Closing {
+            outcome: Outcome::Answered(code),
+            proxy: self.noted_proxy,
+            server: self.noted_server,
+        });
+    }
+
+    /// Goes on with a whole reply. So far a challenge of a target for which something is held, and a
+    /// reply with infos, end the request as want of memory does.
+    #[tactic(auto, using(crate::proofs::Reading::challenged_is_told, crate::proofs::Decided::free_undecided, crate::proofs::Decided::free_last))]
+    pub(crate) fn replied(&mut self, link: u32, reply: Reply)
+        requires room { length self.old.past < 250 }
+        requires few_rounds { self.old.rounds < 256 }
+        requires stage { self.old.stage ≡ Stage.Read link }
+        requires reply { IsTrue (can_be reply) }
+        ensures ties { (s : Setting) → Ties s self.old → Ties s self.new }
+        ensures dials { (s : Setting) → dials s self.new.past ≡ dials s self.old.past }
+    {
+        match challenged_told(self.is_proxied, reply.code) {
+            None => {
+                if reply.proxy_info.is_empty() && reply.server_info.is_empty() {
+                    self.answered(link, reply);
+                } else {
+                    self.spend();
+                }
+            }
+            Some(target) => {
+                if !self.is_free(target) {
+                    self.spend();
+                } else if self.rounds < 16 {
+                    self.undecided(link, reply, target);
+                } else {
+                    self.last_round(link, reply, target, false);
+                }
+            }
+        }
+    }
+}
+
+/// Whom a reply of this code challenges.
+pub(crate) fn challenged_told(is_proxied: bool, code: u16) -> Option<Target>
+    ensures { result ≡ challenged_told is_proxied code }
+{
+    if code == 401 {
+        Some(Target::Server)
+    } else if code == 407 && is_proxied {
+        Some(Target::Proxy)
+    } else {
+        None
+    }
+}
+
+/// Reads over a link. A reply that is read has a final code, and challenges only where it is one.
+#[tactic(auto, using(crate::proofs::Fitting::fit_read))]
+fn read_over<D: Dialer>(
+    link: &mut FreeLink,
+    alloc: Global,
+    dialer: &mut D,
+    method: Method,
+) -> ReadEnd
+    requires { has_link link.old (D.opened dialer.old) ≡ true }
+    ensures fit { IsFitRead result }
+    ensures link { link.new ≡ link.old }
+    ensures dials { D.dials dialer.new ≡ D.dials dialer.old }
+    ensures opened { D.opened dialer.new ≡ D.opened dialer.old }
+{
+    carried();
+    link.read(alloc, dialer, method)
+}

@@ -1,0 +1,146 @@
+//! The next head: its bytes, by what is held for both targets, and its way over the open link.
+
+ghost use Rattle.std.specs.Prelude.{◌≡◌, None, IfSome};
+ghost use Rattle.request_machine.specs.Heads.{nonce_next};
+ghost use Rattle.request_machine.specs.Told.{IsReady};
+
+use crate::close::closing_by;
+use crate::fields::{Maker, field, head};
+use crate::known::gift_told;
+use crate::machine::Machine;
+use crate::stage::Stage;
+use auth_runs::{Event, Outcome};
+use auth_text::{Bytes, NoMemory};
+use connection_binding::SendEnd;
+use link_trait::Dialer;
+use spaces::{Request, Target};
+use std::alloc::Global;
+
+impl Machine {
+    ghost use Rattle.std.specs.Prelude.{◌≡◌, ◌<◌, ◌∷◌, IfOk, IfSome, None, length, true, List, Option};
+    ghost use Rattle.trace_rule.specs.Settings.{Setting};
+    ghost use Rattle.trace_rule.specs.Telling.{dials};
+    ghost use Rattle.link_trait.specs.Told.{grown};
+    ghost use Rattle.link_trait.specs.declared.dialer.Dial.{Dial};
+    ghost use Rattle.request_machine.specs.Kept.{Ties, IsLinkOpen};
+    ghost use Rattle.request_machine.specs.Heads.{head_told};
+
+    /// The bytes of the next head.
+    pub(crate) fn next_head(&self, alloc: Global, request: &Request) -> Result<Bytes, NoMemory>
+        requires few { self.now.heads < 256 }
+        requires proxy { IfSome self.now.proxy IsReady }
+        requires server { IfSome self.now.server IsReady }
+        ensures { IfOk result (λ bytes. bytes ≡ head_told self.now request.now) }
+    {
+        let maker = Maker {
+            number: self.number,
+            seed: self.seed,
+            is_proxied: self.is_proxied,
+            head: self.heads + 1,
+        };
+        let proxy = field(
+            alloc,
+            maker,
+            request,
+            Target::Proxy,
+            self.drawn_proxy,
+            &self.proxy,
+        )?;
+        let server = field(
+            alloc,
+            maker,
+            request,
+            Target::Server,
+            self.drawn_server,
+            &self.server,
+        )?;
+        let text = head(alloc, self.is_proxied, request, &proxy, &server)?;
+        Ok(text)
+    }
+
+    /// The next head is written.
+    #[tactic(auto, using(crate::proofs::Heading::headed_ties))]
+    pub(crate) fn headed(&mut self, request: &Request, bytes: Bytes)
+        requires room { length self.old.past < 256 }
+        requires few { self.old.heads < 256 }
+        requires stage { self.old.stage ≡ Stage.Go }
+        requires dialed { self.old.is_dialed ≡ true }
+        requires proxy { IfSome self.old.proxy IsReady }
+        requires server { IfSome self.old.server IsReady }
+        requires undrawn_proxy { nonce_next self.old.drawn_proxy self.old.proxy ≡ None }
+        requires undrawn_server { nonce_next self.old.drawn_server self.old.server ≡ None }
+        requires bytes { bytes ≡ head_told self.old request.now }
+        ensures past { self.new.past ≡ Event.Headed self.old.links bytes ∷ self.old.past }
+        ensures stage { self.new.stage ≡ Stage.Read self.old.links }
+        ensures links { self.new.links ≡ self.old.links }
+        ensures ties { (s : Setting) → s.request ≡ request.now → Ties s self.old
+            → Ties s self.new }
+    {
+        let link = self.links;
+        self.push(Event::Headed { link, bytes });
+        self.noted_proxy = gift_told(&self.proxy);
+        self.noted_server = gift_told(&self.server);
+        self.drawn_proxy = None;
+        self.drawn_server = None;
+        self.heads += 1;
+        self.is_dialed = false;
+        self.stage = Stage::Read(link);
+    }
+
+    /// Sends the bytes over the open link.
+    pub(crate) fn send_bytes<D: Dialer>(&mut self, dialer: &mut D, bytes: &[u8]) -> SendEnd
+        requires { IsLinkOpen self.old.link (D.opened dialer.old) }
+        ensures same { self.new ≡ self.old }
+        ensures dials { D.dials dialer.new ≡ D.dials dialer.old }
+        ensures opened { D.opened dialer.new ≡ D.opened dialer.old }
+    {
+        match &mut self.link {
+            Some(link) => link.send(dialer, bytes),
+            None => unreachable!(),
+        }
+    }
+
+    /// Writes the next head.
+    pub(crate) fn send<D: Dialer>(&mut self, alloc: Global, request: &Request, dialer: &mut D)
+        requires room { length self.old.past < 250 }
+        requires few { self.old.heads < 256 }
+        requires stage { self.old.stage ≡ Stage.Go }
+        requires dialed { self.old.is_dialed ≡ true }
+        requires proxy { IfSome self.old.proxy IsReady }
+        requires server { IfSome self.old.server IsReady }
+        requires undrawn_proxy { nonce_next self.old.drawn_proxy self.old.proxy ≡ None }
+        requires undrawn_server { nonce_next self.old.drawn_server self.old.server ≡ None }
+        requires open { IsLinkOpen self.old.link (D.opened dialer.old) }
+        ensures ties { (s : Setting) → s.request ≡ request.now → Ties s self.old
+            → Ties s self.new }
+        ensures dials { (s : Setting) (before : Option (List Dial))
+            → D.dials dialer.old ≡ grown before (dials s self.old.past)
+            → D.dials dialer.new ≡ grown before (dials s self.new.past) }
+    {
+        match self.next_head(alloc, request) {
+            Err(NoMemory) => self.spend(),
+            Ok(bytes) => {
+                let end = self.send_bytes(dialer, bytes.as_slice());
+                let link = self.links;
+                self.headed(request, bytes);
+                match end {
+                    SendEnd::All => (),
+                    SendEnd::Failed { count } => self.write_failed(link, count),
+                    SendEnd::NoMemory => self.spend(),
+                }
+            }
+        }
+    }
+
+    /// The head could not be written.
+    #[tactic(auto, using(crate::proofs::Ending::write_failed_ties))]
+    pub(crate) fn write_failed(&mut self, link: u32, count: u64)
+        requires room { length self.old.past < 256 }
+        requires stage { self.old.stage ≡ Stage.Read link }
+        ensures past { self.new.past ≡ Event.WriteFailed link count ∷ self.old.past }
+        ensures ties { (s : Setting) → Ties s self.old → Ties s self.new }
+    {
+        self.push(Event::WriteFailed { link, count });
+        self.stage = Stage::Close(closing_by(Outcome::LinkFailed(count)));
+    }
+}

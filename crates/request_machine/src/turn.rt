@@ -1,0 +1,134 @@
+//! What the machine does by itself, and what it asks of its caller.
+
+ghost use Rattle.std.specs.Prelude.{◌≡◌, None};
+
+use crate::close::first_left;
+use crate::machine::Machine;
+use crate::need::{Need, need_of};
+use crate::stage::Stage;
+use auth_events::{Call, Loss};
+use link_trait::Dialer;
+use spaces::{Request, Target};
+use std::alloc::Global;
+
+impl Machine {
+    ghost use Rattle.std.specs.Prelude.{◌≡◌, ◌<◌, None, length, false, List, Option};
+    ghost use Rattle.trace_rule.specs.Settings.{Setting};
+    ghost use Rattle.trace_rule.specs.Telling.{dials};
+    ghost use Rattle.link_trait.specs.Told.{grown};
+    ghost use Rattle.link_trait.specs.declared.dialer.Dial.{Dial};
+    ghost use Rattle.request_machine.specs.Kept.{Ties};
+    ghost use Rattle.request_machine.specs.Needs.{need_at, IsWantedAt};
+    ghost use Rattle.request_machine.specs.Turns.{IsFitAt, IsLinkKept, is_under_way, opened_without};
+
+    /// Does what comes next, where the machine goes on by itself.
+    pub(crate) fn turn<D: Dialer>(&mut self, alloc: Global, request: &Request, dialer: &mut D)
+        requires room { length self.old.past < 250 }
+        requires few_links { self.old.links < 256 }
+        requires few_heads { self.old.heads < 256 }
+        requires few_rounds { self.old.rounds < 256 }
+        requires fit { IsFitAt self.old.stage self.old (D.opened dialer.old) (D.dials dialer.old) }
+        ensures ties { (s : Setting) → s.request ≡ request.now → Ties s self.old
+            → Ties s self.new }
+        ensures dials { (s : Setting) (before : Option (List Dial)) → s.request ≡ request.now
+            → Ties s self.old → D.dials dialer.old ≡ grown before (dials s self.old.past)
+            → D.dials dialer.new ≡ grown before (dials s self.new.past) }
+    {
+        match self.stage {
+            Stage::Go => self.go(alloc, request, dialer),
+            Stage::Read(link) => self.read(alloc, request, dialer, link),
+            Stage::End(outcome) => self.finished(outcome),
+            Stage::SpentOver => self.spent_over(),
+            _ => (),
+        }
+    }
+
+    /// Closes a link that is still open.
+    pub(crate) fn drop_link<D: Dialer>(&mut self, dialer: &mut D)
+        requires { IsLinkKept self.old.link (D.opened dialer.old) }
+        ensures same { self.new ≡ record self.old { link = None } }
+        ensures dials { D.dials dialer.new ≡ D.dials dialer.old }
+        ensures opened { D.opened dialer.new ≡ opened_without self.old.link (D.opened dialer.old) }
+    {
+        match self.link.take() {
+            Some(link) => link.spend(dialer),
+            None => (),
+        }
+    }
+
+    /// Closes the link where no head and no reply follows on it.
+    #[tactic(auto, using(crate::proofs::Reading::linked_ties))]
+    pub(crate) fn settle_link<D: Dialer>(&mut self, dialer: &mut D)
+        requires { IsLinkKept self.old.link (D.opened dialer.old) }
+        ensures none { is_under_way self.old.stage ≡ false → self.new.link ≡ None }
+        ensures opened { is_under_way self.old.stage ≡ false
+            → D.opened dialer.new ≡ opened_without self.old.link (D.opened dialer.old) }
+        ensures past { self.new.past ≡ self.old.past }
+        ensures stage { self.new.stage ≡ self.old.stage }
+        ensures dials { D.dials dialer.new ≡ D.dials dialer.old }
+        ensures ties { (s : Setting) → Ties s self.old → Ties s self.new }
+    {
+        match self.stage {
+            Stage::Go => (),
+            Stage::Learn(_, _) => (),
+            Stage::Draw(_, _) => (),
+            Stage::Read(_) => (),
+            _ => self.drop_link(dialer),
+        }
+    }
+
+    /// What is asked of the caller; nothing where the machine goes on by itself.
+    #[tactic(auto, using(crate::proofs::Needing::wanted_now))]
+    pub(crate) fn need(&self) -> Option<Need>
+        ensures need { result ≡ need_at self.now self.now.stage }
+        ensures wanted { (s : Setting) → Ties s self.now → IsWantedAt s self.now self.now.stage }
+    {
+        match self.stage {
+            Stage::Call(call) => Some(Need::Book(call)),
+            Stage::Select(_, space, terms) => Some(Need::Book(Call::Select { space, terms })),
+            Stage::Answer(prompt, text) => Some(Need::Book(Call::Answer {
+                prompt: prompt.number,
+                text,
+                terms: prompt.terms,
+            })),
+            Stage::Cancel(prompt) => Some(Need::Book(Call::Answer {
+                prompt: prompt.number,
+                text: 0,
+                terms: prompt.terms,
+            })),
+            Stage::Lose(prompt, loss) => Some(Need::Book(Call::Lose {
+                prompt: prompt.number,
+                loss,
+            })),
+            Stage::Take(prompt) => Some(Need::Book(Call::Take {
+                prompt: prompt.number,
+            })),
+            Stage::Reject(_, gift) => Some(Need::Book(Call::Reject {
+                space: gift.space,
+                ordinal: gift.ordinal,
+            })),
+            Stage::Learn(Target::Proxy, piece) => need_of(piece, &self.proxy),
+            Stage::Learn(Target::Server, piece) => need_of(piece, &self.server),
+            Stage::Learn(Target::Socks, _) => None,
+            Stage::Draw(_, nonce) => Some(Need::Draw(nonce)),
+            Stage::Close(closing) => Some(Need::Book(first_left(closing))),
+            Stage::Spent => Some(Need::Book(if self.prompt == 0 {
+                Call::End
+            } else {
+                Call::Lose {
+                    prompt: self.prompt,
+                    loss: Loss::Memory,
+                }
+            })),
+            Stage::SpentEnd => Some(Need::Book(Call::End)),
+            Stage::Over => Some(Need::Ended),
+            Stage::Go => None,
+            Stage::Choose => None,
+            Stage::Ask(_, _) => None,
+            Stage::NameText(_) => None,
+            Stage::Read(_) => None,
+            Stage::End(_) => None,
+            Stage::SpentOver => None,
+        }
+    }
+}
