@@ -17,7 +17,8 @@ use Rattle.auth_runs.specs.declared.event.Event.TheVariants.{Headed}
 use Rattle.trace_rule.specs.Settings.{Setting, scheme_is, or_else}
 use Rattle.trace_rule.specs.Holding.{Held, held, heads, context_of, unsent}
 use Rattle.trace_rule.specs.Holding.{Context as HeldContext}
-use Rattle.trace_rule.specs.Heads.{head_text, field, field_of, digest_field, credentials, negotiate_credentials, drawn, keeps}
+use Rattle.negotiate_handler.specs.Tokens.{negotiate_credentials}
+use Rattle.trace_rule.specs.Heads.{head_text, field, field_of, digest_field, credentials, drawn, keeps}
 use Rattle.trace_rule.specs.Moves.{rounds}
 use Rattle.trace_rule.specs.Closings.{want, closings_made}
 use Rattle.trace_rule.specs.Moves.Want.{Draws, Writes}
