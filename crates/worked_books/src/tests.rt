@@ -1,11 +1,13 @@
 //! Worked histories, played on a book that scans its journal.
 
+mod apart;
 mod book;
 mod draws;
 mod rivals;
 mod rows;
 mod sources;
 
+use crate::tests::apart::{ONE_ALONE, OTHER_ALONE, TOGETHER};
 use crate::tests::book::{opened, played, played_on, roster_of, roster_of_hosts, space_of_ask};
 use crate::tests::draws::counts_go_on;
 use crate::tests::rivals::{full_cache, full_cache_beside, two_sides};
@@ -27,6 +29,15 @@ const DOCUMENTS: &[(&[u8], &[u8])] = &[
 ];
 
 const TWO_PARTITIONS: &[(&[u8], &[u8])] = &[
+    (b"p1", b"http://a.example/"),
+    (b"p2", b"http://a.example/"),
+];
+
+/// One URL, asked for by two partitions.
+const TWO_SIDES_OF_ONE: &[(&[u8], &[u8])] = &[
+    (b"p1", b"http://a.example/"),
+    (b"p2", b"http://a.example/"),
+    (b"p2", b"http://a.example/"),
     (b"p1", b"http://a.example/"),
     (b"p2", b"http://a.example/"),
 ];
@@ -61,6 +72,20 @@ fn an_old_gift_is_not_rejected(rt: HostRuntime) -> Result<(), Fail> {
 fn identities_go_by_directory_and_partition(rt: HostRuntime) -> Result<(), Fail> {
     played(&rt, rt.alloc(), DOCUMENTS, &[DIRECTORIES])?;
     played(&rt, rt.alloc(), TWO_PARTITIONS, &[PARTITIONS])?;
+    Ok(())
+}
+
+/// The rows are of the same requests, each time on a book of their own.
+fn alike(rt: &impl Abort, alloc: Global) -> Result<(), NoMemory> {
+    for rows in [TOGETHER, ONE_ALONE, OTHER_ALONE] {
+        played(rt, alloc, TWO_SIDES_OF_ONE, &[rows])?;
+    }
+    Ok(())
+}
+
+#[test]
+fn another_partition_changes_no_reply(rt: HostRuntime) -> Result<(), Fail> {
+    alike(&rt, rt.alloc())?;
     Ok(())
 }
 

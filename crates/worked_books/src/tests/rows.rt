@@ -87,6 +87,7 @@ fn reply(word: &str, numbers: [u32; 3]) -> BookReply {
             gift,
             evicted: third,
         },
+        "gave" => BookReply::Gave { gift },
         "cancelled" => BookReply::Cancelled,
         "lost" => BookReply::Lost {
             loss: Loss::Fault(u64::from(first)),
