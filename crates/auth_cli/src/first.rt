@@ -49,7 +49,7 @@ fn nth_reply(
     Ok(reply)
 }
 
-/// The realm of the challenge that the first link gives, where it gives one.
+/// The realm of the challenge that the first link gives, where it gives just one, a Basic one.
 #[tactic(auto, using(crate::proofs::FirstLemmas::realm_shown))]
 fn recorded_realm(alloc: Global, method: Method, links: &Links) -> Result<Option<Bytes>, NoMemory>
     ensures { IfOk result (λ found. IfSome found (λ realm. HasChallenge method links.now realm)) }
