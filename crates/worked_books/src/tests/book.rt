@@ -4,6 +4,7 @@ ghost use Rattle.std.specs.Prelude.{◌≡◌, ◌<◌, ◌*◌, length, IsTrue,
 
 use crate::tests::rows::Row;
 use crate::try_call;
+use auth_book::AuthBook;
 use auth_events::Controller;
 use auth_text::{Bytes, Identity, NoMemory};
 use plain_book::PlainBook;
@@ -255,13 +256,24 @@ pub(crate) fn opened(rt: &impl Abort, alloc: Global, roster: &Roster) -> Result<
     Ok(book)
 }
 
-/// A book of these requests, which has replied as the rows say.
+/// An empty book of these requests that decides by its index.
+fn opened_with_index(rt: &impl Abort, alloc: Global, roster: &Roster) -> Result<AuthBook, NoMemory>
+    ensures { IfOk result (λ book. ⟦<AuthBook as Controller>⟧.roster book ≡ roster.now) }
+{
+    assert!(rt; roster.requests.len() <= 2048);
+    let book = AuthBook::new(alloc, roster)?;
+    Ok(book)
+}
+
+/// A book of these requests, which has replied as the rows say; so has one that decides by its index.
 pub(crate) fn played_on(
     rt: &impl Abort,
     alloc: Global,
     roster: &Roster,
     parts: &[&[Row]],
 ) -> Result<PlainBook, NoMemory> {
+    let mut indexed = opened_with_index(rt, alloc, roster)?;
+    play_all(rt, alloc, &mut indexed, roster, parts)?;
     let mut book = opened(rt, alloc, roster)?;
     play_all(rt, alloc, &mut book, roster, parts)?;
     Ok(book)
