@@ -1,0 +1,5 @@
+pub mod Owning
+pub mod Tracing
+pub mod Bodies
+pub mod Written
+pub mod OnlyTexts

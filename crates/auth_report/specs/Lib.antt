@@ -1,6 +1,4 @@
-pub mod Words
-pub mod RosterLines
-pub mod NameLines
-pub mod EntryLines
-pub mod EventLines
 pub mod Report
+pub mod Sections
+pub mod Steps
+pub mod Reading

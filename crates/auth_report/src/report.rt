@@ -3,23 +3,13 @@
 ghost use Rattle.std.specs.Prelude.{◌≡◌, ◌≤◌, ◌++◌, length, IfOk, OnOk};
 ghost use Rattle.auth_report.specs.Report as spec;
 
-use crate::entry_lines::push_entry_lines;
-use crate::event_lines::push_trace_lines;
-use crate::name_lines::{push_space_lines, push_terms_lines, push_text_lines};
-use crate::roster_lines::{push_default_lines, push_request_lines};
-use crate::words::push_text;
 use auth_runs::Run;
 use auth_text::{Bytes, NoMemory};
+use report_lines::{
+    push_default_lines, push_entry_lines, push_request_lines, push_seed_line, push_space_lines,
+    push_terms_lines, push_text, push_text_lines, push_trace_lines,
+};
 use std::alloc::Global;
-
-fn push_seed_line(alloc: Global, out: &mut Bytes, seed: &[u8]) -> Result<(), NoMemory>
-    ensures { OnOk result (out.new ≡ out.old ++ spec.seed_line seed.now) }
-{
-    let digits = hex::encode(alloc, seed)?;
-    push_text(out, b"seed ")?;
-    push_text(out, digits.as_bytes())?;
-    push_text(out, b"\n")
-}
 
 fn push_roster(alloc: Global, out: &mut Bytes, run: &Run) -> Result<(), NoMemory>
     ensures { OnOk result (out.new ≡ out.old ++ spec.roster_lines run.now) }

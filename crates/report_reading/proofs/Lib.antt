@@ -1,0 +1,4 @@
+pub mod Tests
+pub mod CutLemmas
+pub mod LineLemmas
+pub mod ColonLemmas
