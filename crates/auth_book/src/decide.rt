@@ -50,8 +50,10 @@ impl BookIndex {
         requires cache { CacheFits call reply (entries_in self.old space) }
         requires paths { PathsFit roster.now request call reply
             (notes_at (part_in self.old space)) }
-        ensures { self.new ≡ record self.old { partitions = parts_by_row roster.now names.now
-            request call reply self.old.partitions (numbered self.old.spaces.items space) } }
+        ensures { self.new ≡ record self.old {
+          partitions = parts_by_row roster.now names.now
+              request call reply self.old.partitions (numbered self.old.spaces.items space);
+        } }
     {
         if let Some(row) = self.spaces.get(space) {
             self.partitions.tell(row.partition, roster, names, row.site, request, call, reply);

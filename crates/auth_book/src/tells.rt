@@ -148,8 +148,10 @@ pub fn tell_paths(
 )
     requires room { paths.old.spaces ≡ 32 }
     requires fits { PathsFit roster.now request call reply paths.old.notes }
-    ensures { paths.new ≡ record paths.old { notes = notes_after roster.now names.now (λ _. site)
-        request call reply paths.old.notes } }
+    ensures { paths.new ≡ record paths.old {
+      notes = notes_after roster.now names.now (λ _. site)
+          request call reply paths.old.notes;
+    } }
 {
     match reply {
         BookReply::Noted => {
