@@ -1,0 +1,6 @@
+//! Laws of a run that nothing of its rule rests on: what a run of one caller is made of.
+#![tactic(auto)]
+
+mod lone;
+
+pub use lone::{journals_are_calls, traces_make_runs};
