@@ -1,1 +1,3 @@
 pub mod OneCaller
+pub mod Outsides
+pub mod Alike

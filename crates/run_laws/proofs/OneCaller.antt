@@ -50,7 +50,7 @@ all_own (entry ∷ entries) none =
     ap (λ b. cond b (entry ∷ of entries 1) (of entries 1)) own
     ∙ ap (λ xs. entry ∷ xs) (all_own entries (λ caller other. rest_none entry entries caller (none caller other)))
 
-calls_make : (run : Run) → AreOnce 1 run → run.journal ≡ calls_of 1 run 1
+pub calls_make : (run : Run) → AreOnce 1 run → run.journal ≡ calls_of 1 run 1
 calls_make run once = sym (all_own run.journal (λ caller other. once caller ∙ serves_nothing run caller other)) ∙ once 1
 
 pub journal_is_calls : (roster : Roster) (outside : Outside) (seed : List ℕ) (run : Run) → IsRunByOne roster outside seed run → run.journal ≡ calls_of 1 run 1
@@ -61,7 +61,7 @@ journal_is_calls roster outside seed run is = calls_make run is.is_run.once
 abbrev run_of : List ℕ → Roster → Tables → List Entry → List (List Event) → Run
 run_of seed roster names journal traces = record { seed = seed; roster = roster; names = names; journal = journal; traces = traces }
 
-equal_runs : (a b : Run) → a.seed ≡ b.seed → a.roster ≡ b.roster → a.names ≡ b.names → a.journal ≡ b.journal → a.traces ≡ b.traces → a ≡ b
+pub equal_runs : (a b : Run) → a.seed ≡ b.seed → a.roster ≡ b.roster → a.names ≡ b.names → a.journal ≡ b.journal → a.traces ≡ b.traces → a ≡ b
 equal_runs a b seed roster names journal traces =
     ap (λ x. run_of x a.roster a.names a.journal a.traces) seed
     ∙ (ap (λ x. run_of b.seed x a.names a.journal a.traces) roster
