@@ -1,11 +1,7 @@
 -- What the worked histories keep of their callers.
-use Rattle.std.specs.Prelude.{◌≡◌, ℕ, ◌≤◌}
+use Rattle.std.specs.Prelude.{◌≡◌, ℕ}
 use Rattle.shared_book.specs.Callers.{CallerView, IsCallerOf, SharedView}
 
 -- the caller is of the shared book, and has that number
 abbrev pub IsNumbered : SharedView → ℕ → CallerView → Type 0
 IsNumbered s number c = IsCallerOf s c × (c.number ≡ number)
-
--- a caller that may make the calls of the request of that number, and has so many draws left
-abbrev pub IsAtWork : SharedView → ℕ → ℕ → CallerView → Type 0
-IsAtWork s number draws c = IsCallerOf s c × (c.number ≡ number) × (1 ≤ number) × (number ≤ s.callers) × (draws ≤ c.quota)
