@@ -22,7 +22,7 @@ use Rattle.trace_rule.specs.Traces.{is_end, can_be}
 use Rattle.request_machine.specs.declared.holding.Holding.{Holding}
 use Rattle.request_machine.specs.declared.stage.Stage.{Stage}
 use Rattle.request_machine.specs.declared.stage.Stage.TheVariants.{Reject as Rejecting, Read, Choose, Close}
-use Rattle.request_machine.specs.Kept.{Kept, Ties, IsHeld, held_kept, is_after_end, gift_by_path, note_call}
+use Rattle.request_machine.specs.Kept.{IsKept, Kept, Ties, IsHeld, held_kept, is_after_end, gift_by_path, note_call}
 use Rattle.request_machine.specs.Told.{unless_it}
 use Rattle.request_machine.proofs.Quiet.{IsNext, same_held}
 use Rattle.request_machine.proofs.Prompts.{open_behind}
@@ -37,11 +37,13 @@ one_round s m link reply t is ties =
 
 -- a challenge was read; what is held then, and where the request stands, is given
 pub challenge_ties : (s : Setting) (m : Kept) (link : ℕ) (reply : Reply) (t : Target) (stage : Stage) (proxy server : Option Holding) → m.stage ≡ Read link → challenged s reply ≡ Some t → Ties s m
+    → IsKept s (record m { past = Replied link reply ∷ m.past; stage = stage; proxy = proxy; server = server; rounds = m.rounds + 1; code = reply.code }) stage
     → IsHeld s (Replied link reply ∷ m.past) Proxy proxy → IsHeld s (Replied link reply ∷ m.past) Server server → IsNext s (Replied link reply ∷ m.past) stage
     → Ties s (record m { past = Replied link reply ∷ m.past; stage = stage; proxy = proxy; server = server; rounds = m.rounds + 1; code = reply.code })
-challenge_ties s m link reply x stage proxy server same is t held_proxy held_server next = record {
+challenge_ties s m link reply x stage proxy server same is t kept held_proxy held_server next = record {
   same_number = t.same_number;
   same_seed = t.same_seed;
+  passes_over = t.passes_over;
   route = t.route;
   stage = next.stands;
   proxy = held_proxy;
@@ -61,6 +63,7 @@ challenge_ties s m link reply x stage proxy server same is t held_proxy held_ser
   may_stop = next.may_stop;
   prompt = open_behind m.past (Replied link reply) (λ p. refl) ∙ t.prompt;
   open_still = next.open_still;
+  kept = kept;
 }
 
 -- whom the reply challenges
@@ -106,11 +109,11 @@ moved s m link reply x h last is held_x counted t =
 
 -- where nothing is held, and where nothing decides, a challenge is chosen
 pub to_choose : (s : Setting) (m : Kept) (link : ℕ) (reply : Reply) (t : Target) (h : Option Holding) → m.stage ≡ Read link → challenged s reply ≡ Some t → IsTrue (can_be reply) → IsHeld s m.past t h
-    → IfSome h (λ o. deciding s reply t (held_kept o) ≡ None) → nat_le 17 (m.rounds + 1) ≡ false → Ties s m → IsNext s (Replied link reply ∷ m.past) Choose
+    → IfSome h (λ o. deciding s reply t (held_kept o) ≡ None) → nat_le 17 (m.rounds + 1) ≡ false → Ties s m → IsNext s (Replied link reply ∷ m.past) (Choose t)
 to_choose s m link reply x h same is may held_x undecided few t =
     let no_end : list_any is_end m.past ≡ false = t.ended ∙ ap is_after_end same in
     record {
-      stands = (reads_past s m link (Replied link reply) same t (refl, may), moved s m link reply x h false is held_x few t ∙ at h undecided);
+      stands = (reads_past s m link (Replied link reply) same t (refl, may), moved s m link reply x h false is held_x few t ∙ at h undecided, is);
       ended = no_end;
       may_stop = rw no_end refl;
       open_still = only_end s m (Read link) same t (λ n e. e);
@@ -133,6 +136,7 @@ to_reject s m link reply x h offered same is may held_x decides fresh few t =
             ∙ ap (decided s (Replied link reply ∷ m.past) link reply.stays x (held_kept h)) decides
             ∙ fresh),
         held_x.of_target,
+        is,
       );
       ended = no_end;
       may_stop = rw no_end refl;

@@ -19,24 +19,24 @@ use Rattle.trace_rule.specs.Moves.Move.{Goes}
 use Rattle.request_machine.specs.declared.stage.Stage.{Stage}
 use Rattle.request_machine.specs.declared.stage.Stage.TheVariants.{Go, Learn, Select as Selecting, Choose, Close}
 use Rattle.request_machine.specs.declared.stage.Piece.{Piece}
-use Rattle.request_machine.specs.Kept.{Kept, Ties, IsStage, IsOpen, is_after_end, can_stop, note_call}
+use Rattle.request_machine.specs.Kept.{Kept, IsKept, IsChosen, IsChallenged, IsOfTarget, Ties, IsStage, IsOpen, is_after_end, can_stop, note_call}
 use Rattle.request_machine.proofs.Sending.{only_end}
 use Rattle.request_machine.proofs.Ending.{joined}
 use Rattle.request_machine.proofs.Challenged.{challenges_it, notes_by}
-use Rattle.request_machine.specs.Chosen.{IsChosen}
 use Rattle.request_machine.specs.Told.{unless_it}
 
-chosen : (s : Setting) (past : List Event) (reply : Reply) (t : Target) (o : Option Offer) → IsChosen s past reply t o → select s past ≡ choose s reply.code t o
+pub chosen : (s : Setting) (past : List Event) (reply : Reply) (t : Target) (o : Option Offer) → IsChosen s past reply t o → select s past ≡ choose s reply.code t o
 chosen s past reply t o is =
     ap (λ r. known r (λ x. known (challenged s x) (λ y. choose s x.code y (best (supported (negotiates s past y) x))))) is.last
     ∙ ap (λ y. known y (λ z. choose s reply.code z (best (supported (negotiates s past z) reply)))) is.target
     ∙ ap (choose s reply.code t) is.best
 
-pub staged : (s : Setting) (m : Kept) (stage : Stage) → Ties s m → IsStage s m.past stage → is_after_end m.stage ≡ is_after_end stage → can_stop m.stage ≡ can_stop stage → IsOpen stage (closings_made s m.past)
+pub staged : (s : Setting) (m : Kept) (stage : Stage) → Ties s m → IsStage s m.past stage → is_after_end m.stage ≡ is_after_end stage → can_stop m.stage ≡ can_stop stage → IsOpen stage (closings_made s m.past) → IsKept s (record m { stage = stage }) stage
     → Ties s (record m { stage = stage })
-staged s m stage t stands ended stops open_still = record {
+staged s m stage t stands ended stops open_still kept = record {
   same_number = t.same_number;
   same_seed = t.same_seed;
+  passes_over = t.passes_over;
   route = t.route;
   stage = stands;
   proxy = t.proxy;
@@ -56,13 +56,14 @@ staged s m stage t stands ended stops open_still = record {
   may_stop = t.may_stop ∙ stops;
   prompt = t.prompt;
   open_still = open_still;
+  kept = kept;
 }
 
 -- no challenge can be answered
-pub refused_ties : (s : Setting) (m : Kept) (reply : Reply) (t : Target) → m.stage ≡ Choose → IsChosen s m.past reply t None → Ties s m
+pub refused_ties : (s : Setting) (m : Kept) (reply : Reply) (t : Target) → m.stage ≡ Choose t → IsChosen s m.past reply t None → Ties s m
     → Ties s (record m { stage = Close (record { outcome = Refused reply.code NoChallenge; proxy = unless_it t Proxy m.noted_proxy; server = unless_it t Server m.noted_server }) })
 refused_ties s m reply x same is t =
-    let at : IsStage s m.past Choose = subst (IsStage s m.past) same t.stage in
+    let at : IsStage s m.past (Choose x) = subst (IsStage s m.past) same t.stage in
     let told : (y : Target) → is_challenged s m.past y ≡ same_target y x =
     λ y. ap (λ (r : Option Reply). unwrap_or (option_map (λ (z : Reply). challenges_target s z y) r) false) is.last ∙ challenges_it s reply x y is.target in
     let a : Option Gift = unless_it x Proxy m.noted_proxy in
@@ -73,25 +74,11 @@ refused_ties s m reply x same is t =
     staged s m (Close (record { outcome = Refused reply.code NoChallenge; proxy = a; server = unless_it x Server m.noted_server })) t (
       at.0,
       at.1 ∙ chosen s m.past reply x None is,
-      ap (λ n. drop n (closings s m.past (Refused reply.code NoChallenge))) (only_end s m Choose same t (λ n e. e))
+      ap (λ n. drop n (closings s m.past (Refused reply.code NoChallenge))) (only_end s m (Choose x) same t (λ n e. e))
           ∙ ap (λ calls. map Some ((calls ++ note_for s m.past Server) ++ CallEnd ∷ [])) first ∙ ap (λ calls. map Some ((note_call a [] ++ calls) ++ CallEnd ∷ [])) second ∙ ap (map Some) (joined a (unless_it x Server m.noted_server)),
     )
-    (ap is_after_end same) (ap can_stop same) tt
-
--- the book is asked for an identity for the best challenge, once its space and terms have numbers
-pub selects_ties : (s : Setting) (m : Kept) (reply : Reply) (t : Target) (offered : Offer) (space terms : ℕ) → m.stage ≡ Choose → IsChosen s m.past reply t (Some offered)
-    → space_offered s t offered ≡ Some space → terms_offered s space offered.terms ≡ Some terms → ((x : Target) → target_is s space x ≡ same_target x t) → Ties s m → Ties s (record m { stage = Selecting t space terms })
-selects_ties s m reply x offered space terms same is spaced termed known_target t =
-    let at : IsStage s m.past Choose = subst (IsStage s m.past) same t.stage in
-    staged s m (Selecting x space terms) t (
-      at.0,
-      ap (carried_out s m.past) (at.1 ∙ chosen s m.past reply x (Some offered) is
-          ∙ ap (λ n. known n (λ y. known (terms_offered s y offered.terms) (λ z. Goes (Calls (Select y z))))) spaced
-          ∙ ap (λ n. known n (λ z. Goes (Calls (Select space z)))) termed),
-      known_target,
-    )
-    (ap is_after_end same) (ap can_stop same) (only_end s m Choose same t (λ n e. e))
+    (ap is_after_end same) (ap can_stop same) tt tt
 
 -- the book is to tell more of what is held
 pub learn_ties : (s : Setting) (m : Kept) (t : Target) (piece : Piece) → m.stage ≡ Go → Ties s m → Ties s (record m { stage = Learn t piece })
-learn_ties s m x piece same t = staged s m (Learn x piece) t (subst (IsStage s m.past) same t.stage) (ap is_after_end same) (ap can_stop same) (only_end s m Go same t (λ n e. e))
+learn_ties s m x piece same t = staged s m (Learn x piece) t (subst (IsStage s m.past) same t.stage) (ap is_after_end same) (ap can_stop same) (only_end s m Go same t (λ n e. e)) tt

@@ -39,13 +39,13 @@ undecided_held s past link reply t (Some h) met undecided is = held_challenged s
 
 -- nothing decides: what was held is dropped, and a challenge is chosen
 pub undecided_ties : (s : Setting) (m : Kept) (link : ℕ) (reply : Reply) (t : Target) → m.stage ≡ Read link → IsTrue (can_be reply) → nat_le 17 (m.rounds + 1) ≡ false → IsUndecided s m reply t → Ties s m
-    → Ties s (record m { past = Replied link reply ∷ m.past; stage = Choose; proxy = held_rejected t Proxy m.proxy; server = held_rejected t Server m.server; rounds = m.rounds + 1; code = reply.code })
+    → Ties s (record m { past = Replied link reply ∷ m.past; stage = Choose t; proxy = held_rejected t Proxy m.proxy; server = held_rejected t Server m.server; rounds = m.rounds + 1; code = reply.code })
 undecided_ties s m link reply Proxy same may few is t =
-    challenge_ties s m link reply Proxy Choose None m.server same is.target t
+    challenge_ties s m link reply Proxy (Choose Proxy) None m.server same is.target t tt
     (undecided_held s m.past link reply Proxy m.proxy (challenges_it s reply Proxy Proxy is.target) is.undecided t.proxy) (held_elsewhere s m.past link reply Proxy Server m.server is.target refl t.server)
     (to_choose s m link reply Proxy m.proxy same is.target may t.proxy is.undecided few t)
 undecided_ties s m link reply Server same may few is t =
-    challenge_ties s m link reply Server Choose m.proxy None same is.target t
+    challenge_ties s m link reply Server (Choose Server) m.proxy None same is.target t tt
     (held_elsewhere s m.past link reply Server Proxy m.proxy is.target refl t.proxy) (undecided_held s m.past link reply Server m.server (challenges_it s reply Server Server is.target) is.undecided t.server)
     (to_choose s m link reply Server m.server same is.target may t.server is.undecided few t)
 undecided_ties s m link reply Socks same may few is t = absurd (no_socks s reply is.target)
@@ -66,11 +66,11 @@ pub rejects_ties : (s : Setting) (m : Kept) (link : ℕ) (reply : Reply) (t : Ta
     → IsDecided s m reply t h offered → is_renewal offered ≡ false → Ties s m
     → Ties s (record m { past = Replied link reply ∷ m.past; stage = Rejecting t h.gift; rounds = m.rounds + 1; code = reply.code })
 rejects_ties s m link reply Proxy h offered same may few is fresh t =
-    challenge_ties s m link reply Proxy (Rejecting Proxy h.gift) m.proxy m.server same is.target t
+    challenge_ties s m link reply Proxy (Rejecting Proxy h.gift) m.proxy m.server same is.target t tt
     (decided_held s m.past link reply Proxy m.proxy h offered (challenges_it s reply Proxy Proxy is.target) is.held is.decides t.proxy) (held_elsewhere s m.past link reply Proxy Server m.server is.target refl t.server)
     (to_reject s m link reply Proxy h offered same is.target may (subst (λ x. IsHeld s m.past Proxy x) is.held t.proxy) is.decides (not_renewed s (held_kept h) offered.stale offered.terms fresh) few t)
 rejects_ties s m link reply Server h offered same may few is fresh t =
-    challenge_ties s m link reply Server (Rejecting Server h.gift) m.proxy m.server same is.target t
+    challenge_ties s m link reply Server (Rejecting Server h.gift) m.proxy m.server same is.target t tt
     (held_elsewhere s m.past link reply Server Proxy m.proxy is.target refl t.proxy) (decided_held s m.past link reply Server m.server h offered (challenges_it s reply Server Server is.target) is.held is.decides t.server)
     (to_reject s m link reply Server h offered same is.target may (subst (λ x. IsHeld s m.past Server x) is.held t.server) is.decides (not_renewed s (held_kept h) offered.stale offered.terms fresh) few t)
 rejects_ties s m link reply Socks h offered same may few is fresh t = absurd (no_socks s reply is.target)
@@ -99,11 +99,11 @@ pub last_ties : (s : Setting) (m : Kept) (link : ℕ) (reply : Reply) (t : Targe
       stage = Close (record { outcome = Refused reply.code Rounds; proxy = unless_it t Proxy m.noted_proxy; server = unless_it t Server m.noted_server });
     })
 last_ties s m link reply Proxy kept same may last is t =
-    challenge_ties s m link reply Proxy (Close (record { outcome = Refused reply.code Rounds; proxy = None; server = m.noted_server })) (if kept then m.proxy else None) m.server same is.target t
+    challenge_ties s m link reply Proxy (Close (record { outcome = Refused reply.code Rounds; proxy = None; server = m.noted_server })) (if kept then m.proxy else None) m.server same is.target t tt
     (last_held s m.past link reply Proxy m.proxy kept (challenges_it s reply Proxy Proxy is.target) is.decides t.proxy) (held_elsewhere s m.past link reply Proxy Server m.server is.target refl t.server)
     (to_rounds s m link reply Proxy m.proxy same is.target may t.proxy last t)
 last_ties s m link reply Server kept same may last is t =
-    challenge_ties s m link reply Server (Close (record { outcome = Refused reply.code Rounds; proxy = m.noted_proxy; server = None })) m.proxy (if kept then m.server else None) same is.target t
+    challenge_ties s m link reply Server (Close (record { outcome = Refused reply.code Rounds; proxy = m.noted_proxy; server = None })) m.proxy (if kept then m.server else None) same is.target t tt
     (held_elsewhere s m.past link reply Server Proxy m.proxy is.target refl t.proxy) (last_held s m.past link reply Server m.server kept (challenges_it s reply Server Server is.target) is.decides t.server)
     (to_rounds s m link reply Server m.server same is.target may t.server last t)
 last_ties s m link reply Socks kept same may last is t = absurd (no_socks s reply is.target)

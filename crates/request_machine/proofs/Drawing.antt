@@ -29,6 +29,7 @@ to_draw : (s : Setting) (m : Kept) (t : Target) (n : ℕ) → m.stage ≡ Go →
 to_draw s m x n same wanted t = record {
   same_number = t.same_number;
   same_seed = t.same_seed;
+  passes_over = t.passes_over;
   route = t.route;
   stage = ((subst (IsStage s m.past) same t.stage).0, wanted);
   proxy = t.proxy;
@@ -48,6 +49,7 @@ to_draw s m x n same wanted t = record {
   may_stop = t.may_stop ∙ ap can_stop same;
   prompt = t.prompt;
   open_still = subst (λ stage. IsOpen stage (closings_made s m.past)) same t.open_still;
+  kept = tt;
 }
 
 -- a count is drawn for the proxy next
@@ -83,6 +85,7 @@ drew_proxy_ties s m n count epoch same t =
     record {
       same_number = t.same_number;
       same_seed = t.same_seed;
+      passes_over = t.passes_over;
       route = t.route;
       stage = ((at.0, subst (λ v. Follows s m.past v event) (sym at.1) (refl, refl)), refl);
       proxy = drew_held s m.past Proxy event epoch m.proxy refl t.proxy;
@@ -102,6 +105,7 @@ drew_proxy_ties s m n count epoch same t =
       may_stop = rw no_end refl;
       prompt = open_behind m.past event (λ p. refl) ∙ t.prompt;
       open_still = subst (λ stage. IsOpen stage (closings_made s m.past)) same t.open_still;
+      kept = tt;
     }
 
 pub drew_server_ties : (s : Setting) (m : Kept) (n count epoch : ℕ) → m.stage ≡ Draw Server n → Ties s m
@@ -113,6 +117,7 @@ drew_server_ties s m n count epoch same t =
     record {
       same_number = t.same_number;
       same_seed = t.same_seed;
+      passes_over = t.passes_over;
       route = t.route;
       stage = ((at.0, subst (λ v. Follows s m.past v event) (sym at.1) (refl, refl)), refl);
       proxy = same_held s m.past event Proxy m.proxy refl t.proxy;
@@ -132,4 +137,5 @@ drew_server_ties s m n count epoch same t =
       may_stop = rw no_end refl;
       prompt = open_behind m.past event (λ p. refl) ∙ t.prompt;
       open_still = subst (λ stage. IsOpen stage (closings_made s m.past)) same t.open_still;
+      kept = tt;
     }

@@ -46,7 +46,7 @@ pub write_failed_ties : (s : Setting) (m : Kept) (link count : ℕ) → m.stage 
     → Ties s (record m { past = WriteFailed link count ∷ m.past; stage = Close (closing_by (LinkFailed count)) })
 write_failed_ties s m link count same t =
     let no_end : list_any is_end m.past ≡ false = t.ended ∙ ap is_after_end same in
-    quiet_ties s m (WriteFailed link count) (Close (closing_by (LinkFailed count))) (write_failed_still s m.past link count) (λ x. refl) t (record {
+    quiet_ties s m (WriteFailed link count) (Close (closing_by (LinkFailed count))) (write_failed_still s m.past link count) (λ x. refl) t tt (record {
       stands = (reads_past s m link (WriteFailed link count) same t refl, refl, ap (λ n. drop n (Some CallEnd ∷ [])) (only_end s m (Read link) same t (λ n e. e)));
       ended = no_end;
       may_stop = rw no_end refl;
@@ -57,7 +57,7 @@ pub read_failed_ties : (s : Setting) (m : Kept) (link count : ℕ) → m.stage �
     → Ties s (record m { past = ReadFailed link count ∷ m.past; stage = Close (closing_by (LinkFailed count)) })
 read_failed_ties s m link count same t =
     let no_end : list_any is_end m.past ≡ false = t.ended ∙ ap is_after_end same in
-    quiet_ties s m (ReadFailed link count) (Close (closing_by (LinkFailed count))) (read_failed_still s m.past link count) (λ x. refl) t (record {
+    quiet_ties s m (ReadFailed link count) (Close (closing_by (LinkFailed count))) (read_failed_still s m.past link count) (λ x. refl) t tt (record {
       stands = (reads_past s m link (ReadFailed link count) same t refl, refl, ap (λ n. drop n (Some CallEnd ∷ [])) (only_end s m (Read link) same t (λ n e. e)));
       ended = no_end;
       may_stop = rw no_end refl;
@@ -68,7 +68,7 @@ pub broken_ties : (s : Setting) (m : Kept) (link : ℕ) (fault : WireFault) → 
     → Ties s (record m { past = Broken link fault ∷ m.past; stage = Close (closing_by (BadReply fault)) })
 broken_ties s m link fault same t =
     let no_end : list_any is_end m.past ≡ false = t.ended ∙ ap is_after_end same in
-    quiet_ties s m (Broken link fault) (Close (closing_by (BadReply fault))) (broken_still s m.past link fault) (λ x. refl) t (record {
+    quiet_ties s m (Broken link fault) (Close (closing_by (BadReply fault))) (broken_still s m.past link fault) (λ x. refl) t tt (record {
       stands = (reads_past s m link (Broken link fault) same t refl, refl, ap (λ n. drop n (Some CallEnd ∷ [])) (only_end s m (Read link) same t (λ n e. e)));
       ended = no_end;
       may_stop = rw no_end refl;
@@ -132,6 +132,7 @@ answered_ties s m link reply same none may no_proxy no_server t =
     record {
       same_number = t.same_number;
       same_seed = t.same_seed;
+      passes_over = t.passes_over;
       route = t.route;
       stage = (reads_past s m link (Replied link reply) same t (refl, may), moved, ap (λ n. drop n (closings s whole (Answered reply.code))) (only_end s m (Read link) same t (λ n e. e)) ∙ left);
       proxy = same_held s m.past (Replied link reply) Proxy m.proxy (still_held s reply Proxy (unchallenged s reply Proxy none) (held s m.past Proxy)) t.proxy;
@@ -151,6 +152,7 @@ answered_ties s m link reply same none may no_proxy no_server t =
       may_stop = rw no_end refl;
       prompt = open_behind m.past (Replied link reply) (λ p. refl) ∙ t.prompt;
       open_still = tt;
+      kept = tt;
     }
 
 -- THE CALLS AT THE END
@@ -160,7 +162,7 @@ drop_suc zero xs x ys e = ap (drop 1) e
 drop_suc (suc n) [] x ys e = absurd (cc)
 drop_suc (suc n) (y ∷ xs) x ys e = drop_suc n xs x ys e
 
-drop_one : {A : Type 0} (n : ℕ) (xs : List A) (x : A) (ys : List A) → drop n xs ≡ x ∷ ys → drop (1 + n) xs ≡ ys
+pub drop_one : {A : Type 0} (n : ℕ) (xs : List A) (x : A) (ys : List A) → drop n xs ≡ x ∷ ys → drop (1 + n) xs ≡ ys
 drop_one n xs x ys e = ap (λ k. drop k xs) (let one : 1 + n ≡ n + 1 = omega arith in one ∙ add-one n) ∙ drop_suc n xs x ys e
 
 pub closing_wants : (s : Setting) (past : List Event) (o : Outcome) (call : Call) (calls : List (Option Call)) → move s past ≡ Closes o → drop (closings_made s past) (closings s past o) ≡ Some call ∷ calls → want s past ≡ Calls call
@@ -191,7 +193,7 @@ noted_ties s m c rest gift reply same outcome left suited t =
     let no_end : list_any is_end m.past ≡ false = t.ended ∙ ap is_after_end same in
     let at : IsStage s m.past (Close c) = subst (IsStage s m.past) same t.stage in
     let calls : drop (closings_made s m.past) (closings s m.past c.outcome) ≡ Some (Note gift) ∷ map Some (calls_left rest) = at.2 ∙ ap (map Some) left in
-    quiet_ties s m (Called (Note gift) reply) (Close rest) (note_still s m.past gift reply) (λ x. refl) t (record {
+    quiet_ties s m (Called (Note gift) reply) (Close rest) (note_still s m.past gift reply) (λ x. refl) t tt (record {
       stands = (
         (at.0, subst (λ v. Follows s m.past v (Called (Note gift) reply)) (sym (closing_wants s m.past c.outcome (Note gift) (map Some (calls_left rest)) at.1 calls)) (refl, suited)),
         at.1 ∙ ap Closes (sym outcome),
@@ -210,7 +212,7 @@ pub ended_ties : (s : Setting) (m : Kept) (c : Closing) (reply : BookReply) → 
 ended_ties s m c reply same left suited t =
     let at : IsStage s m.past (Close c) = subst (IsStage s m.past) same t.stage in
     let calls : drop (closings_made s m.past) (closings s m.past c.outcome) ≡ Some CallEnd ∷ [] = at.2 ∙ ap (map Some) left in
-    quiet_ties s m (Called CallEnd reply) (End c.outcome) (end_still s m.past reply) (λ x. refl) t (record {
+    quiet_ties s m (Called CallEnd reply) (End c.outcome) (end_still s m.past reply) (λ x. refl) t tt (record {
       stands = (
         (at.0, subst (λ v. Follows s m.past v (Called CallEnd reply)) (sym (closing_wants s m.past c.outcome CallEnd [] at.1 calls)) (refl, suited)),
         ap (carried_out s (Called CallEnd reply ∷ m.past)) at.1
@@ -227,7 +229,7 @@ pub finished_ties : (s : Setting) (m : Kept) (outcome : Outcome) → m.stage ≡
 finished_ties s m outcome same t =
     let ended : list_any is_end m.past ≡ true = t.ended ∙ ap is_after_end same in
     let at : IsStage s m.past (End outcome) = subst (IsStage s m.past) same t.stage in
-    quiet_ties s m (Ended outcome) Over (outcome_still s m.past outcome) (λ x. refl) t (record {
+    quiet_ties s m (Ended outcome) Over (outcome_still s m.past outcome) (λ x. refl) t tt (record {
       stands = inl ((at.0, subst (λ v. Follows s m.past v (Ended outcome)) (sym at.1) refl), refl);
       ended = ended;
       may_stop = rw ended refl;

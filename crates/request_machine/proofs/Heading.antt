@@ -118,8 +118,9 @@ headed_ties s m request bytes same dialed proxy server undrawn_proxy undrawn_ser
     record {
       same_number = t.same_number;
       same_seed = t.same_seed;
+      passes_over = t.passes_over;
       route = t.route;
-      stage = (next_past s m (Writes m.links bytes) (Headed m.links bytes) same t wanted refl, refl);
+      stage = (next_past s m (Writes m.links bytes) (Headed m.links bytes) same t wanted refl, refl, λ x. refl);
       proxy = ready_headed s m.past Proxy m.links bytes m.proxy t.proxy proxy;
       server = ready_headed s m.past Server m.links bytes m.server t.server server;
       drawn_proxy = refl;
@@ -137,4 +138,5 @@ headed_ties s m request bytes same dialed proxy server undrawn_proxy undrawn_ser
       may_stop = rw no_end refl;
       prompt = open_behind m.past (Headed m.links bytes) (λ p. refl) ∙ t.prompt;
       open_still = subst (λ stage. IsOpen stage (closings_made s m.past)) same t.open_still;
+      kept = (proxy, server);
     }

@@ -20,3 +20,5 @@ pub mod Prompting
 pub mod Decided
 pub mod Fitting
 pub mod Learning
+pub mod Numbers
+pub mod Renewing

@@ -1,5 +1,5 @@
 -- Prompts: one that the request leads, up to its answer or its loss, and one that it follows.
-use Rattle.std.proofs.Common.{◌≡◌, ℕ, ◌+◌, ◌==◌, Bool, true, false, not, ◌&&◌, List, [], ◌∷◌, ◌++◌, drop, map, Option, Some, None, refl, sym, ap, ◌∙◌, zero-add, if◌then◌else◌, IsTrue, subst, option_map, unwrap_or, is_some, arith}
+use Rattle.std.proofs.Common.{IsSome, ◌≡◌, ℕ, ◌+◌, ◌==◌, Bool, true, false, not, ◌&&◌, List, [], ◌∷◌, ◌++◌, drop, map, Option, Some, None, refl, sym, ap, ◌∙◌, zero-add, if◌then◌else◌, IsTrue, subst, option_map, unwrap_or, is_some, arith}
 use Rattle.std.proofs.lemmas.Bool.{false≢true}
 use Rattle.std.specs.List.{list_any}
 use Rattle.spaces.specs.declared.site.Target.{Target}
@@ -40,7 +40,7 @@ use Rattle.request_machine.specs.declared.stage.Closing.{Closing}
 use Rattle.request_machine.specs.declared.stage.Prompt.{Prompt}
 use Rattle.request_machine.specs.declared.stage.Stage.{Stage}
 use Rattle.request_machine.specs.declared.stage.Stage.TheVariants.{Go, Select as Selecting, Ask, NameText, Answer as Answering, Cancel as Cancelling, Lose as Losing, Take as Taking, Close}
-use Rattle.request_machine.specs.Kept.{Kept, Ties, IsStage, IsOpen, IsHeld, IsLed, IsAskOf, asked_of, is_after_end, can_stop, note_call, calls_left}
+use Rattle.request_machine.specs.Kept.{IsKept, Kept, Ties, IsStage, IsOpen, IsHeld, IsLed, IsAskOf, asked_of, is_after_end, can_stop, note_call, calls_left}
 use Rattle.request_machine.specs.Told.{held_chosen, closing_by}
 use Rattle.request_machine.specs.Replies.{challenged_told}
 use Rattle.request_machine.specs.Asking.{stage_asked, outcome_lost, unless_told, refused_by}
@@ -56,11 +56,13 @@ use Rattle.request_machine.proofs.Ending.{joined}
 -- a call changes the stage, what is held and the open prompt alone
 pub call_ties : (s : Setting) (m : Kept) (call : Call) (reply : BookReply) (stage : Stage) (proxy server : Option Holding) (p : ℕ)
     → prompt_open (Called call reply ∷ m.past) (Called call reply ∷ m.past) ≡ p → Ties s m
+    → IsKept s (record m { past = Called call reply ∷ m.past; stage = stage; proxy = proxy; server = server; prompt = p }) stage
     → IsHeld s (Called call reply ∷ m.past) Proxy proxy → IsHeld s (Called call reply ∷ m.past) Server server → IsNext s (Called call reply ∷ m.past) stage
     → Ties s (record m { past = Called call reply ∷ m.past; stage = stage; proxy = proxy; server = server; prompt = p })
-call_ties s m call reply stage proxy server p is_open t held_proxy held_server next = record {
+call_ties s m call reply stage proxy server p is_open t kept held_proxy held_server next = record {
   same_number = t.same_number;
   same_seed = t.same_seed;
+  passes_over = t.passes_over;
   route = t.route;
   stage = next.stands;
   proxy = held_proxy;
@@ -80,6 +82,7 @@ call_ties s m call reply stage proxy server p is_open t held_proxy held_server n
   may_stop = next.may_stop;
   prompt = is_open;
   open_still = next.open_still;
+  kept = kept;
 }
 
 -- no call at the end is made by it
@@ -125,7 +128,7 @@ led_ties s m x n k p ordinal same suited t =
     let asks : IsAskOf s (event ∷ m.past) (record { target = x; number = p; space = n; terms = k }) ordinal =
     (λ space is. ap (λ b. unwrap_or (option_map (λ (ask : Asked). ask ∷ []) (if b then option_map (asked_of ordinal) (s.space_of n) else None)) (ask_of s m.past p)) (same_number p)
     ∙ ap (λ o. unwrap_or (option_map (λ (ask : Asked). ask ∷ []) (option_map (asked_of ordinal) o)) (ask_of s m.past p)) is) in
-    call_ties s m (Select n k) (Lead p ordinal) (Ask (record { target = x; number = p; space = n; terms = k }) ordinal) m.proxy m.server p is_open t
+    call_ties s m (Select n k) (Lead p ordinal) (Ask (record { target = x; number = p; space = n; terms = k }) ordinal) m.proxy m.server p is_open t tt
     (same_held s m.past event Proxy m.proxy (either (target_is s n Proxy) (held s m.past Proxy)) t.proxy)
     (same_held s m.past event Server m.server (either (target_is s n Server) (held s m.past Server)) t.server)
     (record {
@@ -164,11 +167,17 @@ led_still s past p seen led = record {
   of_target = led.of_target;
 }
 
-pub asked_ties : (s : Setting) (m : Kept) (p : Prompt) (ordinal : ℕ) (seen : AskSeen) → m.stage ≡ Ask p ordinal → Ties s m
+pub asked_ties : (s : Setting) (m : Kept) (p : Prompt) (ordinal : ℕ) (seen : AskSeen) → m.stage ≡ Ask p ordinal → (seen ≡ AskGiven → IsSome m.given) → Ties s m
     → Ties s (record m { past = AskedFor p.number seen ∷ m.past; stage = stage_asked p seen })
-asked_ties s m p ordinal seen same t =
-    quiet_ties s m (AskedFor p.number seen) (stage_asked p seen) (asked_still s m.past p.number seen) (λ x. refl) t (by seen)
+asked_ties s m p ordinal seen same given t =
+    quiet_ties s m (AskedFor p.number seen) (stage_asked p seen) (asked_still s m.past p.number seen) (λ x. refl) t (keeps seen given) (by seen)
   where
+    keeps : (seen : AskSeen) → (seen ≡ AskGiven → IsSome m.given) → IsKept s (record m { past = AskedFor p.number seen ∷ m.past; stage = stage_asked p seen }) (stage_asked p seen)
+    keeps AskGiven given = given refl
+    keeps Cancel given = tt
+    keeps (AskFailed count) given = tt
+    keeps AskNoMemory given = tt
+
     no_end : list_any is_end m.past ≡ false
     no_end = t.ended ∙ ap is_after_end same
 
@@ -211,6 +220,7 @@ text_named_ties s m p text same some t =
     record {
       same_number = t.same_number;
       same_seed = t.same_seed;
+      passes_over = t.passes_over;
       route = t.route;
       stage = (at.0, at.1, at.2, some);
       proxy = t.proxy;
@@ -230,6 +240,7 @@ text_named_ties s m p text same some t =
       may_stop = t.may_stop ∙ ap can_stop same;
       prompt = t.prompt;
       open_still = still_open s m (NameText p) same t;
+      kept = tt;
     }
 
 -- THE BOOK'S REPLY TO AN ANSWER
@@ -257,7 +268,7 @@ given_ties s m p text evicted gift same suited t =
     let event : Event = Called (Answer p.number text p.terms) (Given gift evicted) in
     let spaced : gift.space ≡ p.space = held_space s gift (space_prompted m.past p.number) p.terms (second_of (not (text == 0)) (may_hold s gift (space_prompted m.past p.number) p.terms) suited) ∙ at.2.space in
     call_ties s m (Answer p.number text p.terms) (Given gift evicted) Go (held_chosen p.target gift p.terms Proxy m.proxy) (held_chosen p.target gift p.terms Server m.server) 0
-    (closed_by s m.past p event (λ q. refl) at.2) t
+    (closed_by s m.past p event (λ q. refl) at.2) t tt
     (chosen_held s m.past event Proxy p.target gift.space p.terms gift m.proxy refl (gift_target s p gift spaced at.2.of_target) refl t.proxy)
     (chosen_held s m.past event Server p.target gift.space p.terms gift m.server refl (gift_target s p gift spaced at.2.of_target) refl t.server)
     (record {
@@ -306,7 +317,7 @@ pub call_closes : (s : Setting) (m : Kept) (call : Call) (reply : BookReply) (c 
     → prompt_open (Called call reply ∷ m.past) (Called call reply ∷ m.past) ≡ p → ((x : Target) → held s (Called call reply ∷ m.past) x ≡ held s m.past x) → Ties s m
     → Ties s (record m { past = Called call reply ∷ m.past; stage = Close c; prompt = p })
 call_closes s m call reply c p past moved left made no_end follow is_open same t =
-    call_ties s m call reply (Close c) m.proxy m.server p is_open t (same_held s m.past (Called call reply) Proxy m.proxy (same Proxy) t.proxy) (same_held s m.past (Called call reply) Server m.server (same Server) t.server)
+    call_ties s m call reply (Close c) m.proxy m.server p is_open t tt (same_held s m.past (Called call reply) Proxy m.proxy (same Proxy) t.proxy) (same_held s m.past (Called call reply) Server m.server (same Server) t.server)
     (record {
       stands = (past, moved, ap (λ n. drop n (closings s (Called call reply ∷ m.past) c.outcome)) made ∙ left);
       ended = no_end;
@@ -358,7 +369,7 @@ followed_ties s m x n k p same suited t =
     let at : IsStage s m.past (Selecting x n k) = subst (IsStage s m.past) same t.stage in
     let event : Event = Called (Select n k) (Follow p) in
     call_ties s m (Select n k) (Follow p) (Taking (record { target = x; number = p; space = n; terms = k })) m.proxy m.server m.prompt
-    (open_behind m.past event (λ q. refl) ∙ t.prompt) t
+    (open_behind m.past event (λ q. refl) ∙ t.prompt) t tt
     (same_held s m.past event Proxy m.proxy (either (target_is s n Proxy) (held s m.past Proxy)) t.proxy)
     (same_held s m.past event Server m.server (either (target_is s n Server) (held s m.past Server)) t.server)
     (record {
@@ -386,7 +397,7 @@ taken_ties s m p gift same suited t =
     let event : Event = Called (Take p.number) (Gave gift) in
     let spaced : gift.space ≡ p.space = held_space s gift (space_prompted m.past p.number) (terms_followed m.past p.number) suited ∙ at.2.space in
     call_ties s m (Take p.number) (Gave gift) Go (held_chosen p.target gift p.terms Proxy m.proxy) (held_chosen p.target gift p.terms Server m.server) m.prompt
-    (open_behind m.past event (λ q. refl) ∙ t.prompt) t
+    (open_behind m.past event (λ q. refl) ∙ t.prompt) t tt
     (chosen_held s m.past event Proxy p.target gift.space p.terms gift m.proxy (ap (λ k. if_target s Proxy gift.space (gift_held gift k None) (held s m.past Proxy)) at.2.terms) (gift_target s p gift spaced at.2.of_target) refl t.proxy)
     (chosen_held s m.past event Server p.target gift.space p.terms gift m.server (ap (λ k. if_target s Server gift.space (gift_held gift k None) (held s m.past Server)) at.2.terms) (gift_target s p gift spaced at.2.of_target) refl t.server)
     (record {
@@ -418,10 +429,11 @@ lost_with_it_ties s m p told same suited t =
     (none_made s m (still_open s m (Taking p) same t)) (t.ended ∙ ap is_after_end same) refl (open_behind m.past event (λ q. refl) ∙ t.prompt) (λ x. refl) t
 
 -- the identity that was given plays no part
-pub given_kept_ties : (s : Setting) (m : Kept) (login : Login) → Ties s m → Ties s (record m { given = Some login })
-given_kept_ties s m login t = record {
+pub given_kept_ties : (s : Setting) (m : Kept) (p : Prompt) (ordinal : ℕ) (login : Login) → m.stage ≡ Ask p ordinal → Ties s m → Ties s (record m { given = Some login })
+given_kept_ties s m p ordinal login same t = record {
   same_number = t.same_number;
   same_seed = t.same_seed;
+  passes_over = t.passes_over;
   route = t.route;
   stage = t.stage;
   proxy = t.proxy;
@@ -441,6 +453,7 @@ given_kept_ties s m login t = record {
   may_stop = t.may_stop;
   prompt = t.prompt;
   open_still = t.open_still;
+  kept = subst (IsKept s (record m { given = Some login })) (sym same) tt;
 }
 
 -- WHAT THE PROMPTER TELLS

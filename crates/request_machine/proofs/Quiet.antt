@@ -18,7 +18,7 @@ use Rattle.auth_runs.specs.declared.event.Outcome.{Outcome}
 use Rattle.trace_rule.specs.Traces.{prompt_open, is_end, may_cut}
 use Rattle.request_machine.specs.declared.stage.Stage.{Stage}
 use Rattle.request_machine.specs.declared.holding.Holding.{Holding}
-use Rattle.request_machine.specs.Kept.{IsOpen, Kept, Ties, IsHeld, IsStage, gift_carried, is_after_end, can_stop}
+use Rattle.request_machine.specs.Kept.{IsOpen, Kept, IsKept, Ties, IsHeld, IsStage, gift_carried, is_after_end, can_stop}
 use Rattle.request_machine.proofs.Prompts.{open_behind}
 
 -- beside its stage and what is held
@@ -43,11 +43,12 @@ pub record IsNext (s : Setting) (past : List Event) (stage : Stage) : Type 0 whe
 
 -- the stage and what is held may change with such an event
 pub still_ties : (s : Setting) (m : Kept) (event : Event) (stage : Stage) (proxy server : Option Holding) → IsStill s m.past event → Ties s m
-    → IsHeld s (event ∷ m.past) Proxy proxy → IsHeld s (event ∷ m.past) Server server → IsNext s (event ∷ m.past) stage
+    → IsKept s (record m { past = event ∷ m.past; stage = stage; proxy = proxy; server = server }) stage → IsHeld s (event ∷ m.past) Proxy proxy → IsHeld s (event ∷ m.past) Server server → IsNext s (event ∷ m.past) stage
     → Ties s (record m { past = event ∷ m.past; stage = stage; proxy = proxy; server = server })
-still_ties s m event stage proxy server q t held_proxy held_server next = record {
+still_ties s m event stage proxy server q t kept held_proxy held_server next = record {
   same_number = t.same_number;
   same_seed = t.same_seed;
+  passes_over = t.passes_over;
   route = t.route;
   stage = next.stands;
   proxy = held_proxy;
@@ -67,6 +68,7 @@ still_ties s m event stage proxy server q t held_proxy held_server next = record
   may_stop = next.may_stop;
   prompt = q.prompt ∙ t.prompt;
   open_still = next.open_still;
+  kept = kept;
 }
 
 pub same_held : (s : Setting) (past : List Event) (event : Event) (t : Target) (h : Option Holding) → held s (event ∷ past) t ≡ held s past t → IsHeld s past t h → IsHeld s (event ∷ past) t h
@@ -74,9 +76,9 @@ same_held s past event t h same is = record { is_held = same ∙ is.is_held; is_
 
 -- what is held stays
 pub quiet_ties : (s : Setting) (m : Kept) (event : Event) (stage : Stage) → IsStill s m.past event → ((t : Target) → held s (event ∷ m.past) t ≡ held s m.past t) → Ties s m
-    → IsNext s (event ∷ m.past) stage → Ties s (record m { past = event ∷ m.past; stage = stage })
-quiet_ties s m event stage q same t next =
-    still_ties s m event stage m.proxy m.server q t (same_held s m.past event Proxy m.proxy (same Proxy) t.proxy) (same_held s m.past event Server m.server (same Server) t.server) next
+    → IsKept s (record m { past = event ∷ m.past; stage = stage }) stage → IsNext s (event ∷ m.past) stage → Ties s (record m { past = event ∷ m.past; stage = stage })
+quiet_ties s m event stage q same t kept next =
+    still_ties s m event stage m.proxy m.server q t kept (same_held s m.past event Proxy m.proxy (same Proxy) t.proxy) (same_held s m.past event Server m.server (same Server) t.server) next
 
 pub begin_still : (s : Setting) (past : List Event) (reply : BookReply) → IsStill s past (Called Begin reply)
 begin_still s past reply = record {

@@ -30,12 +30,12 @@ rejected_held s past event x t h by is = at (same_target x t) by
     at false e = record { is_held = e ∙ is.is_held; is_known = is.is_known; of_target = is.of_target }
 
 pub rejected_ties : (s : Setting) (m : Kept) (t : Target) (gift : Gift) (reply : BookReply) → m.stage ≡ Rejecting t gift → IsTrue (suits s m.past (Reject gift.space gift.ordinal) reply) → Ties s m
-    → Ties s (record m { past = Called (Reject gift.space gift.ordinal) reply ∷ m.past; stage = Choose; proxy = held_rejected t Proxy m.proxy; server = held_rejected t Server m.server })
+    → Ties s (record m { past = Called (Reject gift.space gift.ordinal) reply ∷ m.past; stage = Choose t; proxy = held_rejected t Proxy m.proxy; server = held_rejected t Server m.server })
 rejected_ties s m x gift reply same suited t =
     let no_end : list_any is_end m.past ≡ false = t.ended ∙ ap is_after_end same in
     let at : IsStage s m.past (Rejecting x gift) = subst (IsStage s m.past) same t.stage in
     let event : Event = Called (Reject gift.space gift.ordinal) reply in
-    still_ties s m event Choose (held_rejected x Proxy m.proxy) (held_rejected x Server m.server)
+    still_ties s m event (Choose x) (held_rejected x Proxy m.proxy) (held_rejected x Server m.server)
     (record {
       drawn = λ y. refl;
       carried = λ y. refl;
@@ -47,11 +47,11 @@ rejected_ties s m x gift reply same suited t =
       has_lost = refl;
       has_none = refl;
       prompt = open_behind m.past event (λ p. refl);
-    }) t
+    }) t tt
     (rejected_held s m.past event Proxy x m.proxy (ap (λ b. if b then None else held s m.past Proxy) (at.2 Proxy)) t.proxy)
     (rejected_held s m.past event Server x m.server (ap (λ b. if b then None else held s m.past Server) (at.2 Server)) t.server)
     (record {
-      stands = ((at.0, subst (λ v. Follows s m.past v event) (sym at.1) (refl, suited)), refl);
+      stands = ((at.0, subst (λ v. Follows s m.past v event) (sym at.1) (refl, suited)), refl, at.3);
       ended = no_end;
       may_stop = rw (no_follow s m.past (Reject gift.space gift.ordinal) reply (λ p. refl) suited, no_end) refl;
       open_still = zero-add (closings_made s m.past) ∙ subst (λ stage. IsOpen stage (closings_made s m.past)) same t.open_still;

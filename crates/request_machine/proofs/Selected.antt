@@ -56,7 +56,7 @@ chosen_ties s m x n k terms gift reply same by goes prompt spaced follow suited 
       has_lost = refl;
       has_none = refl;
       prompt = prompt ∙ open_behind m.past event (λ p. refl);
-    }) t
+    }) t tt
     (chosen_held s m.past event Proxy x n terms gift m.proxy (by Proxy) at.2 spaced t.proxy)
     (chosen_held s m.past event Server x n terms gift m.server (by Server) at.2 spaced t.server)
     (record {

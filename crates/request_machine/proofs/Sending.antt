@@ -18,7 +18,7 @@ use Rattle.trace_rule.specs.Traces.{IsPast, Follows, is_end}
 use Rattle.request_machine.specs.declared.holding.Holding.{Holding}
 use Rattle.request_machine.specs.declared.stage.Stage.{Stage}
 use Rattle.request_machine.specs.declared.stage.Stage.TheVariants.{Go, Close}
-use Rattle.request_machine.specs.Kept.{Kept, Ties, IsStage, IsOpen, IsHeld, held_kept, context_kept, is_after_end, can_stop, gift_carried, gift_by_path}
+use Rattle.request_machine.specs.Kept.{IsKept, Kept, Ties, IsStage, IsOpen, IsHeld, held_kept, context_kept, is_after_end, can_stop, gift_carried, gift_by_path}
 use Rattle.request_machine.specs.Told.{IsReady, scheme_told, gift_told, closing_by}
 use Rattle.request_machine.proofs.Quiet.{quiet_ties, same_held, dial_failed_still}
 use Rattle.request_machine.proofs.Prompts.{open_behind}
@@ -43,6 +43,7 @@ dialed_ties s m same undialed proxy server t =
     record {
       same_number = t.same_number;
       same_seed = t.same_seed;
+      passes_over = t.passes_over;
       route = t.route;
       stage = subst (IsStage s (Dialed (m.links + 1) ∷ m.past)) (sym same) (past, refl);
       proxy = same_held s m.past (Dialed (m.links + 1)) Proxy m.proxy refl t.proxy;
@@ -62,6 +63,7 @@ dialed_ties s m same undialed proxy server t =
       may_stop = (rw no_end refl) ∙ sym (ap can_stop same);
       prompt = open_behind m.past (Dialed (m.links + 1)) (λ p. refl) ∙ t.prompt;
       open_still = t.open_still;
+      kept = subst (IsKept s (record m { past = Dialed (m.links + 1) ∷ m.past; links = m.links + 1; is_dialed = true })) (sym same) tt;
     }
 
 -- the calls at the end, where the last event brings no note
@@ -72,7 +74,7 @@ pub dial_failed_ties : (s : Setting) (m : Kept) (count : ℕ) → m.stage ≡ Go
     → Ties s (record m { past = DialFailed (m.links + 1) count ∷ m.past; stage = Close (closing_by (LinkFailed count)) })
 dial_failed_ties s m count same undialed proxy server t =
     let no_end : list_any is_end m.past ≡ false = t.ended ∙ ap is_after_end same in
-    quiet_ties s m (DialFailed (m.links + 1) count) (Close (closing_by (LinkFailed count))) (dial_failed_still s m.past (m.links + 1) count) (λ x. refl) t (record {
+    quiet_ties s m (DialFailed (m.links + 1) count) (Close (closing_by (LinkFailed count))) (dial_failed_still s m.past (m.links + 1) count) (λ x. refl) t tt (record {
       stands = (
         next_past s m (Dials (m.links + 1)) (DialFailed (m.links + 1) count) same t (wants s m (Dials (m.links + 1)) same t proxy server (dials_next m (head_text s m.past) undialed)) refl,
         refl,

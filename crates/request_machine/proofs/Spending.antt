@@ -13,7 +13,7 @@ use Rattle.trace_rule.specs.Settings.{Setting}
 use Rattle.trace_rule.specs.Moves.{rounds}
 use Rattle.trace_rule.specs.Traces.{IsPast, is_end, with_loss}
 use Rattle.request_machine.specs.declared.stage.Stage.{Stage}
-use Rattle.request_machine.specs.declared.stage.Stage.TheVariants.{Call as Calling, Go, Learn, Draw, Choose, Select as Selecting, Ask, NameText, Answer as Answering, Cancel as Cancelling, Lose as Losing, Take as Taking, Reject as Rejecting, Read, Close, End, Spent, SpentEnd, SpentOver, Over}
+use Rattle.request_machine.specs.declared.stage.Stage.TheVariants.{Call as Calling, Go, Learn, Draw, Choose, NameSpace, NameTerms, Select as Selecting, Ask, NameText, Answer as Answering, Cancel as Cancelling, Lose as Losing, Take as Taking, Reject as Rejecting, NameRenewal, Renew as Renewing, Read, NextNonce, NameLast, RenewLast, Close, End, Spent, SpentEnd, SpentOver, Over}
 use Rattle.request_machine.specs.Kept.{Kept, Ties, IsStage, IsSpentAt, lost_at, is_after_end, can_stop, is_regular}
 use Rattle.request_machine.proofs.Quiet.{quiet_ties, same_held, end_still, outcome_still}
 use Rattle.request_machine.proofs.Prompts.{open_settled}
@@ -23,7 +23,9 @@ regular_past s past (Calling call) regular at = at.0
 regular_past s past Go regular at = at.0
 regular_past s past (Learn t piece) regular at = at.0
 regular_past s past (Draw t nonce) regular at = at.0
-regular_past s past Choose regular at = at.0
+regular_past s past (Choose t) regular at = at.0
+regular_past s past (NameSpace t) regular at = at.0
+regular_past s past (NameTerms t n) regular at = at.0
 regular_past s past (Selecting t space terms) regular at = at.0
 regular_past s past (Ask p ordinal) regular at = at.0
 regular_past s past (NameText p) regular at = at.0
@@ -32,7 +34,12 @@ regular_past s past (Cancelling p) regular at = at.0
 regular_past s past (Losing p loss) regular at = at.0
 regular_past s past (Taking p) regular at = at.0
 regular_past s past (Rejecting t gift) regular at = at.0
+regular_past s past (NameRenewal t gift) regular at = at.0
+regular_past s past (Renewing t gift terms) regular at = at.0
 regular_past s past (Read link) regular at = at.0
+regular_past s past (NextNonce t c) regular at = at.0.is_past
+regular_past s past (NameLast t gift c) regular at = at.0.is_past
+regular_past s past (RenewLast t gift terms c) regular at = at.0.is_past
 regular_past s past (Close c) regular at = at.0
 regular_past s past (End outcome) regular at = at.0
 regular_past s past Spent regular at = absurd (false≢true regular)
@@ -45,7 +52,9 @@ not_ended (Calling call) stop = refl
 not_ended Go stop = refl
 not_ended (Learn t piece) stop = refl
 not_ended (Draw t nonce) stop = refl
-not_ended Choose stop = refl
+not_ended (Choose t) stop = refl
+not_ended (NameSpace t) stop = refl
+not_ended (NameTerms t n) stop = refl
 not_ended (Selecting t space terms) stop = refl
 not_ended (Ask p ordinal) stop = refl
 not_ended (NameText p) stop = refl
@@ -54,7 +63,12 @@ not_ended (Cancelling p) stop = refl
 not_ended (Losing p loss) stop = refl
 not_ended (Taking p) stop = absurd (false≢true stop)
 not_ended (Rejecting t gift) stop = refl
+not_ended (NameRenewal t gift) stop = refl
+not_ended (Renewing t gift terms) stop = refl
 not_ended (Read link) stop = refl
+not_ended (NextNonce t c) stop = refl
+not_ended (NameLast t gift c) stop = refl
+not_ended (RenewLast t gift terms c) stop = refl
 not_ended (Close c) stop = refl
 not_ended (End outcome) stop = absurd (false≢true stop)
 not_ended Spent stop = refl
@@ -67,6 +81,7 @@ pub spent_ties : (s : Setting) (m : Kept) → is_regular m.stage ≡ true → ca
 spent_ties s m regular stop t = record {
   same_number = t.same_number;
   same_seed = t.same_seed;
+  passes_over = t.passes_over;
   route = t.route;
   stage = record { is_past = regular_past s m.past m.stage regular t.stage; may_cut = t.may_stop ∙ stop };
   proxy = t.proxy;
@@ -86,6 +101,7 @@ spent_ties s m regular stop t = record {
   may_stop = t.may_stop ∙ stop;
   prompt = t.prompt;
   open_still = tt;
+  kept = tt;
 }
 
 same_number : (n : ℕ) → (n == n) ≡ true
@@ -102,6 +118,7 @@ prompt_lost_ties s m same some t =
     record {
       same_number = t.same_number;
       same_seed = t.same_seed;
+      passes_over = t.passes_over;
       route = t.route;
       stage = (m.past, at, sym whole);
       proxy = same_held s m.past event Proxy m.proxy refl t.proxy;
@@ -121,12 +138,13 @@ prompt_lost_ties s m same some t =
       may_stop = rw no_end refl;
       prompt = open_settled m.past event (λ p e. subst (λ q. (m.prompt == q) ≡ true) (sym t.prompt ∙ e) (same_number m.prompt)) m.past refl;
       open_still = tt;
+      kept = tt;
     }
 
 spent_end : (s : Setting) (m : Kept) (base : List Event) → IsSpentAt s base → m.past ≡ lost_at base → list_any is_end m.past ≡ false → Ties s m
     → Ties s (record m { past = Called CallEnd RequestEnded ∷ m.past; stage = SpentOver })
 spent_end s m base at same no_end t =
-    quiet_ties s m (Called CallEnd RequestEnded) SpentOver (end_still s m.past RequestEnded) (λ x. refl) t (record {
+    quiet_ties s m (Called CallEnd RequestEnded) SpentOver (end_still s m.past RequestEnded) (λ x. refl) t tt (record {
       stands = (base, at, ap (λ past. Called CallEnd RequestEnded ∷ past) same);
       ended = refl;
       may_stop = refl;
@@ -151,7 +169,7 @@ pub spent_over_ties : (s : Setting) (m : Kept) → m.stage ≡ SpentOver → Tie
 spent_over_ties s m same t =
     let ended : list_any is_end m.past ≡ true = t.ended ∙ ap is_after_end same in
     let at : IsStage s m.past SpentOver = subst (IsStage s m.past) same t.stage in
-    quiet_ties s m (Ended NoMemory) Over (outcome_still s m.past NoMemory) (λ x. refl) t (record {
+    quiet_ties s m (Ended NoMemory) Over (outcome_still s m.past NoMemory) (λ x. refl) t tt (record {
       stands = inr (at.0, record { is_past = at.1.is_past; may_cut = at.1.may_cut; cut = ap (λ past. Ended NoMemory ∷ past) at.2 });
       ended = ended;
       may_stop = rw ended refl;

@@ -57,11 +57,14 @@ pub new_ties : (s : Setting) (request : Request) (number : ℕ) (seed : List ℕ
       has_none = false;
       prompt = 0;
       given = None;
+      unnamed_space = None;
+      unnamed_terms = None;
       link = None;
     })
 new_ties s request number seed same = record {
   same_number = same.same_number;
   same_seed = same.same_seed;
+  passes_over = same.passes_over;
   route = ap (λ (r : Request). is_some r.proxy) same.same_request;
   stage = (tt, refl);
   proxy = record { is_held = refl; is_known = tt; of_target = tt };
@@ -81,13 +84,14 @@ new_ties s request number seed same = record {
   may_stop = refl;
   prompt = refl;
   open_still = refl;
+  kept = tt;
 }
 
 pub begun_ties : (s : Setting) (m : Kept) (reply : BookReply) → m.stage ≡ Calling Begin → IsTrue (suits s m.past Begin reply) → Ties s m
     → Ties s (record m { past = Called Begin reply ∷ m.past; stage = Calling (Preempt (target_of m.is_proxied)) })
 begun_ties s m reply same suited t =
     let no_end : list_any is_end m.past ≡ false = t.ended ∙ ap is_after_end same in
-    quiet_ties s m (Called Begin reply) (Calling (Preempt (target_of m.is_proxied))) (begin_still s m.past reply) (λ x. refl) t (record {
+    quiet_ties s m (Called Begin reply) (Calling (Preempt (target_of m.is_proxied))) (begin_still s m.past reply) (λ x. refl) t tt (record {
       stands = (call_is_past s m.past m.stage Begin reply same t.stage suited, ap (λ b. Calls (Preempt (target_of b))) t.route);
       ended = no_end;
       may_stop = rw (no_follow s m.past Begin reply (λ p. refl) suited, no_end) refl;
@@ -99,7 +103,7 @@ pub preempted_proxy_ties : (s : Setting) (m : Kept) (reply : BookReply) → m.st
     → Ties s (record m { past = Called (Preempt Proxy) reply ∷ m.past; stage = Calling (Preempt Server); proxy = held_first reply m.proxy })
 preempted_proxy_ties s m reply same suited t =
     let no_end : list_any is_end m.past ≡ false = t.ended ∙ ap is_after_end same in
-    still_ties s m (Called (Preempt Proxy) reply) (Calling (Preempt Server)) (held_first reply m.proxy) m.server (preempt_still s m.past Proxy reply) t
+    still_ties s m (Called (Preempt Proxy) reply) (Calling (Preempt Server)) (held_first reply m.proxy) m.server (preempt_still s m.past Proxy reply) t tt
     (ready_is_held s m.past Proxy (Called (Preempt Proxy) reply) reply m.proxy (λ gift terms epoch e. ready_target s Proxy gift terms epoch (subst (λ r. IsTrue (suits s m.past (Preempt Proxy) r)) e suited)) t.proxy refl)
     (same_held s m.past (Called (Preempt Proxy) reply) Server m.server refl t.server)
     (record {
@@ -114,7 +118,7 @@ pub preempted_server_ties : (s : Setting) (m : Kept) (reply : BookReply) → m.s
     → Ties s (record m { past = Called (Preempt Server) reply ∷ m.past; stage = Go; server = held_first reply m.server })
 preempted_server_ties s m reply same suited t =
     let no_end : list_any is_end m.past ≡ false = t.ended ∙ ap is_after_end same in
-    still_ties s m (Called (Preempt Server) reply) Go m.proxy (held_first reply m.server) (preempt_still s m.past Server reply) t
+    still_ties s m (Called (Preempt Server) reply) Go m.proxy (held_first reply m.server) (preempt_still s m.past Server reply) t tt
     (same_held s m.past (Called (Preempt Server) reply) Proxy m.proxy refl t.proxy)
     (ready_is_held s m.past Server (Called (Preempt Server) reply) reply m.server (λ gift terms epoch e. ready_target s Server gift terms epoch (subst (λ r. IsTrue (suits s m.past (Preempt Server) r)) e suited)) t.server refl)
     (record {
@@ -132,6 +136,7 @@ pub learned_ties : (s : Setting) (m : Kept) (t : Target) (piece : Piece) (proxy 
 learned_ties s m x piece proxy server same t held_proxy held_server = record {
   same_number = t.same_number;
   same_seed = t.same_seed;
+  passes_over = t.passes_over;
   route = t.route;
   stage = subst (IsStage s m.past) same t.stage;
   proxy = held_proxy;
@@ -151,6 +156,7 @@ learned_ties s m x piece proxy server same t held_proxy held_server = record {
   may_stop = t.may_stop ∙ ap can_stop same;
   prompt = t.prompt;
   open_still = subst (λ stage. IsOpen stage (closings_made s m.past)) same t.open_still;
+  kept = tt;
 }
 
 pub held_with_space : (s : Setting) (past : List Event) (t : Target) (h : Option Holding) (space : ProtectionSpace) → IfSome h (λ o. s.space_of o.gift.space ≡ Some space) → IsHeld s past t h
@@ -174,6 +180,7 @@ of_setting s roster number seed request of found = record {
   same_number = of.same_number;
   same_request = ap (λ o. unwrap_or o s.request) (sym of.is_request ∙ found);
   same_seed = of.same_seed;
+  passes_over = of.passes_over;
 }
 
 pub ties_of_setting : {E : Type 0} (roster : Roster) (number : ℕ) (seed : List ℕ) (request : Request) (result : Result Kept E) → numbered roster.requests number ≡ Some request

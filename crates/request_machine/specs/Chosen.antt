@@ -1,21 +1,14 @@
--- The challenge that is answered.
-use Rattle.std.specs.Prelude.{◌≡◌, Bool, ◌&&◌, List, Option, Some, None, IfSome, is_some}
+-- What a challenge decides on what is held.
+use Rattle.std.specs.Prelude.{◌≡◌, Bool, ◌&&◌, Option, Some, None, IfSome, is_some}
 use Rattle.spaces.specs.declared.site.Target.{Target}
 use Rattle.wire_head.specs.declared.reply.Reply.{Reply}
-use Rattle.auth_runs.specs.declared.event.Event.{Event}
 use Rattle.trace_rule.specs.Settings.{Setting}
-use Rattle.trace_rule.specs.Challenges.{Offer, challenged, supported, best}
-use Rattle.trace_rule.specs.Holding.{last_reply, negotiates, deciding}
+use Rattle.trace_rule.specs.Challenges.{Offer, challenged}
+use Rattle.trace_rule.specs.Holding.{deciding}
 use Rattle.trace_rule.specs.Holding.Decision.{Offering}
 use Rattle.request_machine.specs.declared.holding.Holding.{Holding}
 use Rattle.request_machine.specs.Kept.{Kept, held_kept}
 use Rattle.request_machine.specs.Changed.{holding}
-
--- the last reply, whom it challenges, and the best challenge
-pub record IsChosen (s : Setting) (past : List Event) (reply : Reply) (t : Target) (o : Option Offer) : Type 0 where
-  pub last : last_reply past ≡ Some reply
-  pub target : challenged s reply ≡ Some t
-  pub best : best (supported (negotiates s past t) reply) ≡ o
 
 -- the reply challenges the target, and decides nothing on what is held for it
 pub record IsUndecided (s : Setting) (m : Kept) (reply : Reply) (t : Target) : Type 0 where

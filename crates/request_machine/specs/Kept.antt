@@ -1,26 +1,29 @@
 -- What a machine keeps, and what that says of its request's past.
-use Rattle.std.specs.Prelude.{ℕ, ◌≡◌, ◌⊎◌, Bool, true, false, not, IsTrue, ◌==◌, List, [], ◌∷◌, drop, map, Option, Some, None, option_map, option_and_then, if◌then◌else◌, IfSome}
+use Rattle.std.specs.Prelude.{ℕ, ◌≡◌, ◌⊎◌, Bool, true, false, not, IsTrue, ◌==◌, List, [], ◌∷◌, ◌++◌, drop, map, Option, Some, None, IsSome, option_map, option_and_then, if◌then◌else◌, IfSome}
 use Rattle.std.specs.List.{list_any}
 use Rattle.spaces.specs.declared.roster.Request.{Request}
 use Rattle.spaces.specs.declared.roster.Roster.{Roster}
 use Rattle.spaces.specs.declared.site.Target.{Target}
-use Rattle.spaces.specs.declared.site.Target.TheVariants.{Server, Proxy}
+use Rattle.spaces.specs.declared.site.Target.TheVariants.{Server, Proxy, Socks}
+use Rattle.spaces.specs.declared.terms.Terms.{Terms}
 use Rattle.auth_events.specs.declared.journal.Gift.{Gift}
 use Rattle.auth_events.specs.declared.journal.Call.{Call}
-use Rattle.auth_events.specs.declared.journal.Call.TheVariants.{Begin, Select, Reject, Answer, Lose, Take, Note, End as CallEnd}
+use Rattle.auth_events.specs.declared.journal.Call.TheVariants.{Begin, Select, Reject, Renew, Answer, Lose, Take, Note, End as CallEnd}
 use Rattle.auth_events.specs.declared.journal.BookReply.TheVariants.{Ended as RequestEnded}
 use Rattle.auth_events.specs.declared.names.TermsName.{TermsName}
 use Rattle.auth_runs.specs.declared.event.Event.{Event}
 use Rattle.auth_runs.specs.declared.event.Event.TheVariants.{Called}
 use Rattle.trace_rule.specs.Settings.{Setting, is_proxied, is_by_path, target_is}
-use Rattle.spaces.specs.Sites.{same_target, numbered}
-use Rattle.trace_rule.specs.Holding.{Held, held, carried, links, heads, code, has_link, is_lost, is_no_mechanism, terms_followed}
+use Rattle.spaces.specs.Sites.{same_target, numbered, site}
+use Rattle.trace_rule.specs.Holding.{Held, held, held_headed, carried, links, heads, code, has_link, is_lost, is_no_mechanism, terms_followed, last_reply, negotiates}
+use Rattle.trace_rule.specs.Challenges.{Offer, challenged, supported, best, space_at}
+use Rattle.wire_head.specs.declared.reply.Reply.{Reply}
 use Rattle.trace_rule.specs.Holding.{Context as HeldContext}
 use Rattle.trace_rule.specs.Heads.{drawn}
-use Rattle.trace_rule.specs.Moves.{move, go, select, rounds, terms_led}
-use Rattle.trace_rule.specs.Closings.{want, closings, closings_made}
+use Rattle.trace_rule.specs.Moves.{move, go, select, known, rounds, terms_led, is_answered, space_offered}
+use Rattle.trace_rule.specs.Closings.{want, closings, closings_made, renewal_for}
 use Rattle.trace_rule.specs.Moves.Want.{Calls, Answers, Asks, Draws, Reads, Ends}
-use Rattle.trace_rule.specs.Moves.Move.{Closes}
+use Rattle.trace_rule.specs.Moves.Move.{Goes, Closes}
 use Rattle.trace_rule.specs.Traces.{IsPast, IsRun, IsCut, may_cut, is_end, prompt_open, space_prompted, with_loss}
 use Rattle.trace_rule.specs.Telling.{ask_of}
 use Rattle.link_trait.specs.declared.prompts.Ask.{Ask as Asked}
@@ -31,10 +34,12 @@ use Rattle.link_trait.specs.Links.{has_link as has_link_name}
 use Rattle.request_machine.specs.declared.holding.Context.{Context}
 use Rattle.request_machine.specs.declared.holding.NamedTerms.{NamedTerms}
 use Rattle.request_machine.specs.declared.holding.Holding.{Holding}
+use Rattle.auth_runs.specs.declared.event.Outcome.{Outcome}
+use Rattle.request_machine.specs.Told.{IsReady}
 use Rattle.request_machine.specs.declared.stage.Closing.{Closing}
 use Rattle.request_machine.specs.declared.stage.Prompt.{Prompt}
 use Rattle.request_machine.specs.declared.stage.Stage.{Stage}
-use Rattle.request_machine.specs.declared.stage.Stage.TheVariants.{Call as Calling, Go, Learn, Draw, Choose, Select as Selecting, Ask, NameText, Answer as Answering, Cancel as Cancelling, Lose as Losing, Take as Taking, Reject as Rejecting, Read, Close, End, Spent, SpentEnd, SpentOver, Over}
+use Rattle.request_machine.specs.declared.stage.Stage.TheVariants.{Call as Calling, Go, Learn, Draw, Choose, NameSpace, NameTerms, Select as Selecting, Ask, NameText, Answer as Answering, Cancel as Cancelling, Lose as Losing, Take as Taking, Reject as Rejecting, NameRenewal, Renew as Renewing, Read, NextNonce, NameLast, RenewLast, Close, End, Spent, SpentEnd, SpentOver, Over}
 
 pub record Kept : Type 0 where
   pub number : ℕ
@@ -69,6 +74,9 @@ pub record Kept : Type 0 where
   pub prompt : ℕ
   -- the identity that the prompter gave, until it is named
   pub given : Option Login
+  -- the space and the terms that are to be named
+  pub unnamed_space : Option ProtectionSpace
+  pub unnamed_terms : Option Terms
   -- the link that is open
   pub link : Option LinkName
 
@@ -87,17 +95,25 @@ pub record IsOf (s : Setting) (request : Request) (number : ℕ) (seed : List �
   pub same_number : s.number ≡ number
   pub same_request : s.request ≡ request
   pub same_seed : s.seed ≡ seed
+  -- `negotiate` challenges are passed over
+  pub passes_over : s.has_negotiate ≡ false
 
 -- the setting is of the numbered request of the roster
 pub record IsSettingOf (s : Setting) (roster : Roster) (number : ℕ) (seed : List ℕ) : Type 0 where
   pub same_number : s.number ≡ number
   pub is_request : numbered roster.requests number ≡ Some s.request
   pub same_seed : s.seed ≡ seed
+  -- `negotiate` challenges are passed over
+  pub passes_over : s.has_negotiate ≡ false
 
 -- WHAT IS HELD
 
 abbrev pub context_kept : Context → HeldContext
 context_kept context = record { token = context.token; is_sent = context.is_sent; link = context.link }
+
+-- the number is one of a space of the target
+abbrev pub IsOfTarget : Setting → ℕ → Target → Type 0
+IsOfTarget s space t = (x : Target) → target_is s space x ≡ same_target x t
 
 -- what the rule says is held
 abbrev pub held_kept : Holding → Held
@@ -115,8 +131,7 @@ pub record IsKnown (s : Setting) (h : Holding) : Type 0 where
 pub record IsHeld (s : Setting) (past : List Event) (t : Target) (h : Option Holding) : Type 0 where
   pub is_held : held s past t ≡ option_map held_kept h
   pub is_known : IfSome h (IsKnown s)
-  -- the gift's space is of the target
-  pub of_target : IfSome h (λ o. (x : Target) → target_is s o.gift.space x ≡ same_target x t)
+  pub of_target : IfSome h (λ o. IsOfTarget s o.gift.space t)
 
 -- the Basic or Digest gift that the last head carried for the target
 abbrev pub gift_by_path : Setting → Held → Option Gift
@@ -135,6 +150,36 @@ note_call (Some gift) calls = Note gift ∷ calls
 abbrev pub calls_left : Closing → List Call
 calls_left c = note_call c.proxy (note_call c.server (CallEnd ∷ []))
 
+-- those that are left in a past
+abbrev pub closings_left : Setting → List Event → Outcome → List (Option Call)
+closings_left s past outcome = drop (closings_made s past) (closings s past outcome)
+
+-- the renewals at the end, from a target on
+abbrev pub renewals_from : Setting → List Event → Target → List (Option Call)
+renewals_from s past Proxy = renewal_for s past Proxy ++ renewal_for s past Server
+renewals_from s past Server = renewal_for s past Server
+renewals_from s past Socks = []
+
+-- those behind a target
+abbrev pub renewals_behind : Setting → List Event → Target → List (Option Call)
+renewals_behind s past Proxy = renewal_for s past Server
+renewals_behind s past Server = []
+renewals_behind s past Socks = []
+
+-- what the last head carried for the target is held still
+abbrev pub IsCarriedStill : Setting → List Event → Target → Type 0
+IsCarriedStill s past t = (link : ℕ) × (held s past t ≡ option_map (held_headed link) (carried s past t))
+
+abbrev pub AreCarriedFrom : Setting → List Event → Target → Type 0
+AreCarriedFrom s past Proxy = IsCarriedStill s past Proxy × IsCarriedStill s past Server
+AreCarriedFrom s past Server = IsCarriedStill s past Server
+AreCarriedFrom s past Socks = Unit {0}
+
+abbrev pub AreCarriedBehind : Setting → List Event → Target → Type 0
+AreCarriedBehind s past Proxy = IsCarriedStill s past Server
+AreCarriedBehind s past Server = Unit {0}
+AreCarriedBehind s past Socks = Unit {0}
+
 -- a past at which memory ran out
 pub record IsSpentAt (s : Setting) (base : List Event) : Type 0 where
   pub is_past : IsPast s base
@@ -150,13 +195,13 @@ pub record IsLed (s : Setting) (past : List Event) (p : Prompt) : Type 0 where
   pub terms : terms_led past p.number ≡ p.terms
   pub space : space_prompted past p.number ≡ p.space
   pub is_open : prompt_open past past ≡ p.number
-  pub of_target : (x : Target) → target_is s p.space x ≡ same_target x p.target
+  pub of_target : IsOfTarget s p.space p.target
 
 -- the request follows it
 pub record IsFollowed (s : Setting) (past : List Event) (p : Prompt) : Type 0 where
   pub terms : terms_followed past p.number ≡ p.terms
   pub space : space_prompted past p.number ≡ p.space
-  pub of_target : (x : Target) → target_is s p.space x ≡ same_target x p.target
+  pub of_target : IsOfTarget s p.space p.target
 
 abbrev pub asked_of : ℕ → ProtectionSpace → Asked
 asked_of ordinal space = record { space = space; ordinal = ordinal }
@@ -165,6 +210,70 @@ asked_of ordinal space = record { space = space; ordinal = ordinal }
 abbrev pub IsAskOf : Setting → List Event → Prompt → ℕ → Type 0
 IsAskOf s past p ordinal = (space : ProtectionSpace) → s.space_of p.space ≡ Some space → ask_of s past p.number ≡ asked_of ordinal space ∷ []
 
+-- A CHALLENGE
+
+-- the last reply challenges the target
+abbrev pub IsChallenged : Setting → List Event → Target → Type 0
+IsChallenged s past t = option_and_then (challenged s) (last_reply past) ≡ Some t
+
+-- the last reply, whom it challenges, and the best challenge
+pub record IsChosen (s : Setting) (past : List Event) (reply : Reply) (t : Target) (o : Option Offer) : Type 0 where
+  pub last : last_reply past ≡ Some reply
+  pub target : challenged s reply ≡ Some t
+  pub best : best (supported (negotiates s past t) reply) ≡ o
+
+-- it is the best challenge of the last reply, and its terms are to be named
+pub record IsPicked (s : Setting) (past : List Event) (terms : Option Terms) (t : Target) (offered : Offer) : Type 0 where
+  pub reply : Reply
+  pub is_chosen : IsChosen s past reply t (Some offered)
+  pub same_terms : terms ≡ offered.terms
+
+-- its space is to be named too
+pub record IsSpacePicked (s : Setting) (past : List Event) (space : Option ProtectionSpace) (terms : Option Terms) (t : Target) : Type 0 where
+  pub offered : Offer
+  pub is_picked : IsPicked s past terms t offered
+  pub at_site : option_map (λ place. space_at place offered) (site s.request t) ≡ space
+  pub is_some : IsSome space
+
+-- its space has that number
+pub record AreTermsPicked (s : Setting) (past : List Event) (terms : Option Terms) (t : Target) (n : ℕ) : Type 0 where
+  pub offered : Offer
+  pub is_picked : IsPicked s past terms t offered
+  pub in_space : space_offered s t offered ≡ Some n
+  pub are_some : IsSome terms
+
+-- the gift is to be given the terms that are to be named
+pub record IsStale (s : Setting) (past : List Event) (unnamed : Option Terms) (gift : Gift) : Type 0 where
+  pub terms : Terms
+  pub are_unnamed : unnamed ≡ Some terms
+  pub moves : move s past ≡ known (s.terms_no gift.space terms) (λ n. Goes (Calls (Renew gift n)))
+
+-- AN ANSWER
+
+-- the last reply answers the request, which closes
+pub record IsAnswered (s : Setting) (past : List Event) (c : Closing) : Type 0 where
+  pub is_past : IsPast s past
+  pub closes : move s past ≡ Closes c.outcome
+  pub answered : is_answered s past ≡ true
+
+-- all is told of what is held, from a target on
+abbrev pub AreReadyFrom : Option Holding → Option Holding → Target → Type 0
+AreReadyFrom proxy server Proxy = IfSome proxy IsReady × IfSome server IsReady
+AreReadyFrom proxy server Server = IfSome server IsReady
+AreReadyFrom proxy server Socks = Unit {0}
+
+-- behind a target
+abbrev pub AreReadyBehind : Option Holding → Target → Type 0
+AreReadyBehind server Proxy = IfSome server IsReady
+AreReadyBehind server Server = Unit {0}
+AreReadyBehind server Socks = Unit {0}
+
+-- the first call that is left gives the gift the terms that are to be named
+pub record IsRenewalLeft (s : Setting) (past : List Event) (unnamed : Option Terms) (t : Target) (gift : Gift) (c : Closing) : Type 0 where
+  pub terms : Terms
+  pub are_unnamed : unnamed ≡ Some terms
+  pub left : closings_left s past c.outcome ≡ option_map (Renew gift) (s.terms_no gift.space terms) ∷ (renewals_behind s past t ++ map Some (calls_left c))
+
 -- WHERE IT STANDS
 
 abbrev pub IsStage : Setting → List Event → Stage → Type 0
@@ -172,17 +281,25 @@ IsStage s past (Calling call) = IsPast s past × (want s past ≡ Calls call)
 IsStage s past Go = IsPast s past × (want s past ≡ go s past)
 IsStage s past (Learn t piece) = IsPast s past × (want s past ≡ go s past)
 IsStage s past (Draw t nonce) = IsPast s past × (want s past ≡ Draws t nonce)
-IsStage s past Choose = IsPast s past × (move s past ≡ select s past)
-IsStage s past (Selecting t space terms) = IsPast s past × (want s past ≡ Calls (Select space terms)) × ((x : Target) → target_is s space x ≡ same_target x t)
+IsStage s past (Choose t) = IsPast s past × (move s past ≡ select s past) × IsChallenged s past t
+IsStage s past (NameSpace t) = IsPast s past × (move s past ≡ select s past) × IsChallenged s past t
+IsStage s past (NameTerms t n) = IsPast s past × (move s past ≡ select s past) × IsChallenged s past t × IsOfTarget s n t
+IsStage s past (Selecting t space terms) = IsPast s past × (want s past ≡ Calls (Select space terms)) × IsOfTarget s space t
 IsStage s past (Ask p ordinal) = IsPast s past × (want s past ≡ Asks p.number) × IsLed s past p × IsAskOf s past p ordinal
 IsStage s past (NameText p) = IsPast s past × (want s past ≡ Answers p.number p.terms) × IsLed s past p
 IsStage s past (Answering p text) = IsPast s past × (want s past ≡ Answers p.number p.terms) × IsLed s past p × IsTrue (not (text == 0))
 IsStage s past (Cancelling p) = IsPast s past × (want s past ≡ Calls (Answer p.number 0 p.terms)) × IsLed s past p
 IsStage s past (Losing p loss) = IsPast s past × (want s past ≡ Calls (Lose p.number loss)) × IsLed s past p
 IsStage s past (Taking p) = IsPast s past × (want s past ≡ Calls (Take p.number)) × IsFollowed s past p
-IsStage s past (Rejecting t gift) = IsPast s past × (want s past ≡ Calls (Reject gift.space gift.ordinal)) × ((x : Target) → target_is s gift.space x ≡ same_target x t)
-IsStage s past (Read link) = IsPast s past × (want s past ≡ Reads link)
-IsStage s past (Close c) = IsPast s past × (move s past ≡ Closes c.outcome) × (drop (closings_made s past) (closings s past c.outcome) ≡ map Some (calls_left c))
+IsStage s past (Rejecting t gift) = IsPast s past × (want s past ≡ Calls (Reject gift.space gift.ordinal)) × IsOfTarget s gift.space t × IsChallenged s past t
+IsStage s past (NameRenewal t gift) = IsPast s past × IsOfTarget s gift.space t × IsChallenged s past t
+IsStage s past (Renewing t gift terms) = IsPast s past × (want s past ≡ Calls (Renew gift terms)) × IsOfTarget s gift.space t × IsChallenged s past t
+IsStage s past (Read link) = IsPast s past × (want s past ≡ Reads link) × ((x : Target) → held s past x ≡ option_map (held_headed link) (carried s past x))
+IsStage s past (NextNonce t c) = IsAnswered s past c × (closings_left s past c.outcome ≡ renewals_from s past t ++ map Some (calls_left c)) × AreCarriedFrom s past t
+IsStage s past (NameLast t gift c) = IsAnswered s past c × IsOfTarget s gift.space t × AreCarriedBehind s past t
+IsStage s past (RenewLast t gift terms c) =
+    IsAnswered s past c × (closings_left s past c.outcome ≡ Some (Renew gift terms) ∷ (renewals_behind s past t ++ map Some (calls_left c))) × IsOfTarget s gift.space t × AreCarriedBehind s past t
+IsStage s past (Close c) = IsPast s past × (move s past ≡ Closes c.outcome) × (closings_left s past c.outcome ≡ map Some (calls_left c))
 IsStage s past (End outcome) = IsPast s past × (want s past ≡ Ends outcome)
 IsStage s past Spent = IsSpentAt s past
 IsStage s past SpentEnd = (base : List Event) × IsSpentAt s base × (past ≡ lost_at base)
@@ -216,6 +333,9 @@ is_regular stage = true
 
 -- no call at the end was made before the request closes
 abbrev pub IsOpen : Stage → ℕ → Type 0
+IsOpen (NextNonce t c) made = Unit {0}
+IsOpen (NameLast t gift c) made = Unit {0}
+IsOpen (RenewLast t gift terms c) made = Unit {0}
 IsOpen (Close c) made = Unit {0}
 IsOpen (End outcome) made = Unit {0}
 IsOpen Spent made = Unit {0}
@@ -224,10 +344,23 @@ IsOpen SpentOver made = Unit {0}
 IsOpen Over made = Unit {0}
 IsOpen stage made = made ≡ 0
 
+-- what is kept beside the past for what comes next
+abbrev pub IsKept : Setting → Kept → Stage → Type 0
+IsKept s m (NameSpace t) = IsSpacePicked s m.past m.unnamed_space m.unnamed_terms t
+IsKept s m (NameTerms t n) = AreTermsPicked s m.past m.unnamed_terms t n
+IsKept s m (NameText p) = IsSome m.given
+IsKept s m (NameRenewal t gift) = IsStale s m.past m.unnamed_terms gift
+IsKept s m (Read link) = IfSome m.proxy IsReady × IfSome m.server IsReady
+IsKept s m (NextNonce t c) = AreReadyFrom m.proxy m.server t
+IsKept s m (NameLast t gift c) = AreReadyBehind m.server t × IsRenewalLeft s m.past m.unnamed_terms t gift c
+IsKept s m (RenewLast t gift terms c) = AreReadyBehind m.server t
+IsKept s m stage = Unit {0}
+
 -- the fields say what the past says
 pub record Ties (s : Setting) (m : Kept) : Type 0 where
   pub same_number : s.number ≡ m.number
   pub same_seed : s.seed ≡ m.seed
+  pub passes_over : s.has_negotiate ≡ false
   pub route : is_proxied s ≡ m.is_proxied
   pub stage : IsStage s m.past m.stage
   pub proxy : IsHeld s m.past Proxy m.proxy
@@ -247,3 +380,8 @@ pub record Ties (s : Setting) (m : Kept) : Type 0 where
   pub may_stop : may_cut m.past ≡ can_stop m.stage
   pub prompt : prompt_open m.past m.past ≡ m.prompt
   pub open_still : IsOpen m.stage (closings_made s m.past)
+  pub kept : IsKept s m m.stage
+
+-- some setting stands for what it keeps
+abbrev pub IsTied : Kept → Type 0
+IsTied m = (s : Setting) × Ties s m

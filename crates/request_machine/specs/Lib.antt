@@ -6,6 +6,7 @@ pub mod Chosen
 pub mod Changed
 pub mod Replies
 pub mod Needs
+pub mod Renewals
 pub mod Turns
 pub mod Asking
 pub mod Reads

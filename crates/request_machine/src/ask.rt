@@ -16,7 +16,7 @@ use link_trait::{AskSeen, Asked, Prompter};
 use spaces::{Space, Target, same_target};
 
 impl Machine {
-    ghost use Rattle.std.specs.Prelude.{◌≡◌, ◌<◌, ◌∷◌, IsTrue, Some, length, not, ◌==◌, List, Option};
+    ghost use Rattle.std.specs.Prelude.{◌≡◌, ◌<◌, ◌∷◌, IsTrue, IsSome, Some, length, not, ◌==◌, List, Option};
     ghost use Rattle.link_trait.specs.Told.{grown};
     ghost use Rattle.link_trait.specs.declared.prompts.Ask.{Ask};
     ghost use Rattle.trace_rule.specs.Settings.{Setting};
@@ -66,6 +66,7 @@ impl Machine {
     fn asked(&mut self, prompt: Prompt, ordinal: u32, given: AskSeen)
         requires room { length self.old.past < 256 }
         requires stage { self.old.stage ≡ Stage.Ask prompt ordinal }
+        requires kept { given ≡ AskSeen.Given → IsSome self.old.given }
         ensures past { self.new.past ≡ Event.AskedFor prompt.number given ∷ self.old.past }
         ensures ties { (s : Setting) → Ties s self.old → Ties s self.new }
     {
@@ -96,8 +97,8 @@ impl Machine {
     {
         match prompter.ask(space, ordinal) {
             Asked::Given(identity) => {
-                self.asked(prompt, ordinal, AskSeen::Given);
                 self.put_given(identity);
+                self.asked(prompt, ordinal, AskSeen::Given);
             }
             Asked::Cancel => self.asked(prompt, ordinal, AskSeen::Cancel),
             Asked::Failed => {

@@ -46,7 +46,7 @@ impl Machine {
         self.drop_held(target);
         self.code = code;
         self.rounds += 1;
-        self.stage = Stage::Choose;
+        self.stage = Stage::Choose(target);
     }
 
     /// The reply challenges the target, and what is held for it is rejected, unless the challenge is

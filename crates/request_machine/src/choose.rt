@@ -14,19 +14,14 @@ impl Machine {
     ghost use Rattle.std.specs.Prelude.{◌≡◌, ◌∷◌, ◌<◌, IsTrue, Some, None, length};
     ghost use Rattle.trace_rule.specs.Settings.{Setting};
     ghost use Rattle.trace_rule.specs.Traces.{suits};
-    ghost use Rattle.request_machine.specs.Kept.{Ties};
+    ghost use Rattle.request_machine.specs.Kept.{Ties, IsChosen};
     ghost use Rattle.request_machine.specs.Told.{held_chosen, held_rejected};
-    ghost use Rattle.request_machine.specs.Chosen.{IsChosen};
-    ghost use Rattle.trace_rule.specs.Settings.{target_is};
-    ghost use Rattle.trace_rule.specs.Moves.{space_offered, terms_offered};
-    ghost use Rattle.trace_rule.specs.Challenges.{Offer};
-    ghost use Rattle.spaces.specs.Sites.{same_target};
     ghost use Rattle.wire_head.specs.declared.reply.Reply.{Reply};
 
     /// No challenge can be answered.
     #[tactic(auto, using(crate::proofs::Choosing::refused_ties))]
     pub(crate) fn refuse(&mut self, code: u16, target: Target)
-        requires stage { self.old.stage ≡ Stage.Choose }
+        requires stage { self.old.stage ≡ Stage.Choose target }
         ensures ties { (s : Setting) (reply : Reply) → reply.code ≡ code
             → IsChosen s self.old.past reply target None → Ties s self.old → Ties s self.new }
     {
@@ -36,19 +31,6 @@ impl Machine {
             server: unless_it(target, Target::Server, self.noted_server),
         };
         self.stage = Stage::Close(closing);
-    }
-
-    /// The book is asked for an identity for the target.
-    #[tactic(auto, using(crate::proofs::Choosing::selects_ties))]
-    pub(crate) fn select(&mut self, target: Target, space: u32, terms: u32)
-        requires stage { self.old.stage ≡ Stage.Choose }
-        ensures ties { (s : Setting) (reply : Reply) (offered : Offer)
-            → IsChosen s self.old.past reply target (Some offered)
-            → space_offered s target offered ≡ Some space
-            → terms_offered s space offered.terms ≡ Some terms → ((x : Target)
-            → target_is s space x ≡ same_target x target) → Ties s self.old → Ties s self.new }
-    {
-        self.stage = Stage::Select(target, space, terms);
     }
 
     /// The gift is held for the target.
@@ -145,7 +127,7 @@ impl Machine {
             reply,
         });
         self.drop_held(target);
-        self.stage = Stage::Choose;
+        self.stage = Stage::Choose(target);
     }
 
     pub(crate) fn drop_held(&mut self, target: Target)

@@ -39,7 +39,7 @@ impl Machine {
     ghost use Rattle.auth_events.specs.Pages.{fits};
     ghost use Rattle.trace_rule.specs.Traces.{suits};
     ghost use Rattle.request_machine.specs.Changed.{holding, put_held};
-    ghost use Rattle.request_machine.specs.Gives.{IsReplyTo, IsTold, IsSpaceTold, IsIdentityTold, IsTermsTold};
+    ghost use Rattle.request_machine.specs.Gives.{IsReplyTo, IsTold, IsNumberTold, AreTermsNumbered, IsSpaceTold, IsIdentityTold, IsTermsTold};
     ghost use Rattle.request_machine.specs.Gives.{is_given, is_cancelled, is_heard, call_at, IsHeardIn};
     ghost use Rattle.request_machine.specs.Kept.{Ties};
     ghost use Rattle.request_machine.specs.Needs.{first_left};
@@ -261,6 +261,10 @@ impl Machine {
             Stage::Lose(prompt, loss) => self.replied_to_loss(prompt, loss, reply),
             Stage::Take(prompt) => self.took(prompt, reply),
             Stage::Reject(target, gift) => self.rejected(target, gift, reply),
+            Stage::Renew(target, gift, terms) => self.renewed(target, gift, terms, reply),
+            Stage::RenewLast(target, gift, terms, closing) => {
+                self.renewed_last(target, gift, terms, closing, reply);
+            }
             Stage::Close(closing) => self.closed(closing, reply),
             Stage::Spent => self.replied_spent(),
             Stage::SpentEnd => self.lost_end(),
@@ -286,19 +290,40 @@ impl Machine {
     {
         match self.stage {
             Stage::Learn(_, _) => self.spend(),
+            Stage::NameSpace(_) => self.spend(),
+            Stage::NameTerms(_, _) => self.spend(),
             Stage::NameText(_) => self.spend(),
+            Stage::NameRenewal(_, _) => self.spend(),
+            Stage::NameLast(_, _, _) => self.spend(),
             _ => (),
         }
     }
 
-    /// A text has a number, which is never 0.
+    /// The terms that were to be named have a number.
+    fn terms_numbered(&mut self, terms: u32)
+        ensures ties { (s : Setting) → AreTermsNumbered s self.old self.old.stage terms
+            → Ties s self.old → Ties s self.new }
+    {
+        match self.stage {
+            Stage::NameTerms(target, space) => self.terms_named(target, space, terms),
+            Stage::NameRenewal(target, gift) => self.renewal_named(target, gift, terms),
+            Stage::NameLast(target, gift, closing) => {
+                self.last_named(target, gift, closing, terms);
+            }
+            _ => (),
+        }
+    }
+
+    /// The space or the text that was to be named has a number, which is never 0.
     fn numbered(&mut self, number: u32)
-        ensures ties { (s : Setting) → Ties s self.old → Ties s self.new }
+        ensures ties { (s : Setting) → IsNumberTold s self.old self.old.stage number
+            → Ties s self.old → Ties s self.new }
     {
         if number == 0 {
             return;
         }
         match self.stage {
+            Stage::NameSpace(target) => self.space_named(target, number),
             Stage::NameText(prompt) => self.text_named(prompt, number),
             _ => (),
         }
@@ -315,7 +340,7 @@ impl Machine {
         match gave {
             Gave::Reply(reply) => self.replied_to(reply),
             Gave::Number(number) => self.numbered(number),
-            Gave::Ref(_) => (),
+            Gave::Ref(numbers) => self.terms_numbered(numbers.terms),
             Gave::Identity(identity) => match self.stage {
                 Stage::Learn(target, Piece::Identity) => self.told_identity(target, identity),
                 _ => (),

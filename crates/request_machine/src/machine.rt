@@ -9,7 +9,7 @@ use auth_events::{Call, Gift};
 use auth_runs::Event;
 use auth_text::{Identity, NoMemory};
 use connection_binding::FreeLink;
-use spaces::{Request, Roster, Target};
+use spaces::{Request, Roster, Space, Target, Terms};
 use std::alloc::Global;
 use std::marker::Model;
 
@@ -35,6 +35,8 @@ pub struct Machine {
     pub(crate) has_none: bool,
     pub(crate) prompt: u32,
     pub(crate) given: Option<Identity>,
+    pub(crate) unnamed_space: Option<Space>,
+    pub(crate) unnamed_terms: Option<Terms>,
     pub(crate) link: Option<FreeLink>,
 }
 
@@ -65,6 +67,8 @@ impl Model for Machine {
       has_none = m.has_none;
       prompt = m.prompt;
       given = m.given;
+      unnamed_space = m.unnamed_space;
+      unnamed_terms = m.unnamed_terms;
       link = m.link;
     } };
 
@@ -130,6 +134,8 @@ impl Machine {
             has_none: false,
             prompt: 0,
             given: None,
+            unnamed_space: None,
+            unnamed_terms: None,
             link: None,
         })
     }
@@ -177,6 +183,20 @@ impl Machine {
             Target::Server => self.hold_server(held),
             Target::Socks => (),
         }
+    }
+
+    /// Keeps the space that is to be named.
+    pub(crate) fn put_space(&mut self, space: Option<Space>)
+        ensures { self.new ≡ record self.old { unnamed_space = space } }
+    {
+        self.unnamed_space = space;
+    }
+
+    /// Keeps the terms that are to be named.
+    pub(crate) fn put_terms(&mut self, terms: Option<Terms>)
+        ensures { self.new ≡ record self.old { unnamed_terms = terms } }
+    {
+        self.unnamed_terms = terms;
     }
 
     /// Keeps the link.

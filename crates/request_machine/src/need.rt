@@ -6,12 +6,20 @@ ghost use Rattle.request_machine.specs.Needs.{need_of};
 use crate::holding::Holding;
 use crate::stage::Piece;
 use auth_events::{Call, Gift};
+use auth_text::Identity;
+use spaces::{Space, Terms};
 
 /// What the book or the words are to tell.
-#[derive(Clone, Copy, Debug, PartialEq, Eq)]
+#[derive(Debug, Drop)]
 pub enum Need {
     /// The book is called.
     Book(Call),
+    /// The number of the space, which is named where it has none.
+    SpaceNo(Space),
+    /// The numbers of the terms of that space, which are named where they have none.
+    TermsNo(u32, Terms),
+    /// A number for the identity that the user gave.
+    TextNo(Identity),
     /// The space of that number.
     SpaceOf(u32),
     /// The identity that the gift stands for.

@@ -41,8 +41,12 @@ pub enum Stage {
     Learn(Target, Piece),
     /// On that way a count of the nonce is drawn for the target.
     Draw(Target, u32),
-    /// The best challenge of the last reply is chosen.
-    Choose,
+    /// The best challenge of the last reply, which challenges the target, is chosen.
+    Choose(Target),
+    /// Its space is to be named.
+    NameSpace(Target),
+    /// Its space has that number, and its terms are to be named.
+    NameTerms(Target, u32),
     /// The book chooses an identity for the target, in a space and with terms.
     Select(Target, u32, u32),
     /// The user is asked; the number is the prompt's ordinal in its space.
@@ -59,8 +63,19 @@ pub enum Stage {
     Take(Prompt),
     /// The gift that is held for the target is rejected.
     Reject(Target, Gift),
+    /// A stale challenge's terms are to be named, for the gift that is held for the target.
+    NameRenewal(Target, Gift),
+    /// The gift is given these terms.
+    Renew(Target, Gift, u32),
     /// The link's reply is read.
     Read(u32),
+    /// The nonce that the last reply gives the target for the next request is looked for, before the
+    /// calls at the end.
+    NextNonce(Target, Closing),
+    /// The terms with that nonce are to be named, for the gift that is held for the target.
+    NameLast(Target, Gift, Closing),
+    /// The gift is given these terms, before the other calls at the end.
+    RenewLast(Target, Gift, u32, Closing),
     /// The calls at the end.
     Close(Closing),
     /// They were made; the outcome follows.

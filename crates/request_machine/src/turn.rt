@@ -1,14 +1,11 @@
-//! What the machine does by itself, and what it asks of its caller.
+//! What the machine does by itself.
 
 ghost use Rattle.std.specs.Prelude.{◌≡◌, None};
 
-use crate::close::first_left;
 use crate::machine::Machine;
-use crate::need::{Need, need_of};
 use crate::stage::Stage;
-use auth_events::{Call, Loss};
 use link_trait::Dialer;
-use spaces::{Request, Target};
+use spaces::Request;
 use std::alloc::Global;
 
 impl Machine {
@@ -18,7 +15,6 @@ impl Machine {
     ghost use Rattle.link_trait.specs.Told.{grown};
     ghost use Rattle.link_trait.specs.declared.dialer.Dial.{Dial};
     ghost use Rattle.request_machine.specs.Kept.{Ties};
-    ghost use Rattle.request_machine.specs.Needs.{need_at, IsWantedAt};
     ghost use Rattle.request_machine.specs.Turns.{IsFitAt, IsLinkKept, is_under_way, opened_without};
 
     /// Does what comes next, where the machine goes on by itself.
@@ -74,61 +70,6 @@ impl Machine {
             Stage::Draw(_, _) => (),
             Stage::Read(_) => (),
             _ => self.drop_link(dialer),
-        }
-    }
-
-    /// What is asked of the caller; nothing where the machine goes on by itself.
-    #[tactic(auto, using(crate::proofs::Needing::wanted_now))]
-    pub(crate) fn need(&self) -> Option<Need>
-        ensures need { result ≡ need_at self.now self.now.stage }
-        ensures wanted { (s : Setting) → Ties s self.now → IsWantedAt s self.now self.now.stage }
-    {
-        match self.stage {
-            Stage::Call(call) => Some(Need::Book(call)),
-            Stage::Select(_, space, terms) => Some(Need::Book(Call::Select { space, terms })),
-            Stage::Answer(prompt, text) => Some(Need::Book(Call::Answer {
-                prompt: prompt.number,
-                text,
-                terms: prompt.terms,
-            })),
-            Stage::Cancel(prompt) => Some(Need::Book(Call::Answer {
-                prompt: prompt.number,
-                text: 0,
-                terms: prompt.terms,
-            })),
-            Stage::Lose(prompt, loss) => Some(Need::Book(Call::Lose {
-                prompt: prompt.number,
-                loss,
-            })),
-            Stage::Take(prompt) => Some(Need::Book(Call::Take {
-                prompt: prompt.number,
-            })),
-            Stage::Reject(_, gift) => Some(Need::Book(Call::Reject {
-                space: gift.space,
-                ordinal: gift.ordinal,
-            })),
-            Stage::Learn(Target::Proxy, piece) => need_of(piece, &self.proxy),
-            Stage::Learn(Target::Server, piece) => need_of(piece, &self.server),
-            Stage::Learn(Target::Socks, _) => None,
-            Stage::Draw(_, nonce) => Some(Need::Draw(nonce)),
-            Stage::Close(closing) => Some(Need::Book(first_left(closing))),
-            Stage::Spent => Some(Need::Book(if self.prompt == 0 {
-                Call::End
-            } else {
-                Call::Lose {
-                    prompt: self.prompt,
-                    loss: Loss::Memory,
-                }
-            })),
-            Stage::SpentEnd => Some(Need::Book(Call::End)),
-            Stage::Over => Some(Need::Ended),
-            Stage::Go => None,
-            Stage::Choose => None,
-            Stage::Ask(_, _) => None,
-            Stage::NameText(_) => None,
-            Stage::Read(_) => None,
-            Stage::End(_) => None,
-            Stage::SpentOver => None,
         }
     }
 }

@@ -8,4 +8,4 @@ pub returns-clause-ties : goal.returns-clause-ties
 returns-clause-ties c = λ s t.
     subst (λ (v : Kept). Ties s (record v { stage = c.stage_asked-self-inside.result })) (sym (c.self.view_is ∙ c.push.ensures))
     (subst (λ r. Ties s (record c.args.self.now { past = AskedFor c.args.prompt.number c.args.given ∷ c.args.self.now.past; stage = r })) (sym c.stage_asked-self-inside.ensures)
-    (asked_ties s c.args.self.now c.args.prompt c.args.ordinal c.args.given c.requires.stage t))
+    (asked_ties s c.args.self.now c.args.prompt c.args.ordinal c.args.given c.requires.stage c.requires.kept t))

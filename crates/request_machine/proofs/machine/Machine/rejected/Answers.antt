@@ -8,7 +8,7 @@ use Rattle.request_machine.proofs.machine.Machine.rejected.Goals as goal
 
 pub returns-clause-ties : goal.returns-clause-ties
 returns-clause-ties c = λ s suited t.
-    subst (λ (v : Kept). Ties s (record v { stage = Choose }))
+    subst (λ (v : Kept). Ties s (record v { stage = Choose c.args.target }))
     (sym (c.self.view_is ∙ c.drop_held.ensures
     ∙ ap (λ (m : Kept). record m { proxy = held_rejected c.args.target Proxy m.proxy; server = held_rejected c.args.target Server m.server }) c.push.ensures))
     (rejected_ties s c.args.self.now c.args.target c.args.gift c.args.reply c.requires.stage suited t)
