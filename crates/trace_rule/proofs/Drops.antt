@@ -106,6 +106,35 @@ offering_clash s reply t h offered d n = at (scheme_is s h.gift.space Negotiate)
     at true n e = false≢true (sym (none (negotiate_challenge reply)) ∙ ap is_offering e)
     at false n e = false≢true n
 
+-- a token of the peer decides on a Negotiate identity alone
+negotiating_decides : (s : Setting) (reply : Reply) (t : Target) (h : Held) (peer : Option (List ℕ)) → deciding s reply t h ≡ Some (Negotiating peer) → IsTrue (scheme_is s h.gift.space Negotiate)
+negotiating_decides s reply t h peer d = at (scheme_is s h.gift.space Negotiate) refl
+  where
+    is_negotiating : Option Decision → Bool
+    is_negotiating (Some (Negotiating o)) = true
+    is_negotiating _ = false
+
+    offers : (o : Option Offer) → is_negotiating (option_map Offering o) ≡ false
+    offers None = refl
+    offers (Some x) = refl
+
+    inner : (o : Option ProtectionSpace) (place : Site) → is_negotiating (option_and_then (λ named. option_map Offering (find (λ offered. same_space (space_at place offered) named) (supported false reply))) o) ≡ false
+    inner None place = refl
+    inner (Some named) place = offers (find (λ offered. same_space (space_at place offered) named) (supported false reply))
+
+    outer : (o : Option Site) → is_negotiating (option_and_then (λ place. option_and_then (λ named. option_map Offering (find (λ offered. same_space (space_at place offered) named) (supported false reply))) (s.space_of h.gift.space)) o) ≡ false
+    outer None = refl
+    outer (Some place) = inner (s.space_of h.gift.space) place
+
+    at : (b : Bool) → scheme_is s h.gift.space Negotiate ≡ b → scheme_is s h.gift.space Negotiate ≡ true
+    at true e = e
+    at false e =
+        absurd
+        (false≢true
+        (sym (outer (site s.request t))
+        ∙ (ap (λ b. is_negotiating (if b then option_map (λ challenge. Negotiating (token_in challenge.body)) (negotiate_challenge reply) else option_and_then (λ place. option_and_then (λ named. option_map Offering (find (λ offered. same_space (space_at place offered) named) (supported false reply))) (s.space_of h.gift.space)) (site s.request t))) (sym e)
+        ∙ ap is_negotiating d)))
+
 renewed_plain : (s : Setting) (past : List Event) (gift : Gift) (terms : ℕ) (reply : BookReply) → IsPast s (Called (Renew gift terms) reply ∷ past) → IsTrue (scheme_is s gift.space Negotiate) → ⊥
 renewed_plain s past gift terms reply run n = at (made_by s past (Renew gift terms) reply run.1)
   where
@@ -132,7 +161,7 @@ renewed_plain s past gift terms reply run n = at (made_by s past (Renew gift ter
 
 -- what is a Negotiate identity was one before, or is chosen now
 abbrev pub IsGained : Setting → List Event → Target → Type 0
-IsGained s past t = IsTrue (negotiating s (held s past t)) ⊎ (list_any is_no_mechanism past ≡ false) × (t ≡ first_target s)
+IsGained s past t = IsTrue (negotiating s (held s past t)) ⊎ (list_any is_no_mechanism past ≡ false) × (t ≡ first_target s) × IsTrue s.has_negotiate
 
 -- by whether the new one is held
 gained_if : {P : Type 0} (s : Setting) (b : Bool) (x y : Option Held) → (IsTrue b → IsTrue (negotiating s x) → P) → (IsTrue (negotiating s y) → P) → IsTrue (negotiating s (if b then x else y)) → P
@@ -154,7 +183,7 @@ module _ (s : Setting) (means : IsNumbered s) where
 
   -- a gift of a space that was chosen
   gained_gift : (b : List Event) (space terms : ℕ) (reply : BookReply) (gift : Gift) (t : Target) → IsPast s (Called (Select space terms) reply ∷ b) → gift.space ≡ space → IsTrue (scheme_is s gift.space Negotiate) → IsTrue (target_is s gift.space t)
-      → (list_any is_no_mechanism b ≡ false) × (t ≡ first_target s)
+      → (list_any is_no_mechanism b ≡ false) × (t ≡ first_target s) × IsTrue s.has_negotiate
   gained_gift b space terms reply gift t run same n target =
       negotiate_choice s means b space terms (chosen_from s b space terms reply run) (subst (λ x. IsTrue (scheme_is s x Negotiate)) same n) t (subst (λ x. IsTrue (target_is s x t)) same target)
 
@@ -173,12 +202,12 @@ module _ (s : Setting) (means : IsNumbered s) where
       → IsTrue (negotiating s (held_prompted s t terms reply (held s past t))) → IsGained s past t
   gained_answer past t q text terms (Given gift evicted) run f a n = gained_if s (target_is s gift.space t) (gift_held gift terms None) (held s past t) (λ target m. inr (by target m (prompted_from s past q text terms (Given gift evicted) run))) (λ m. inl m) n
     where
-      by : IsTrue (target_is s gift.space t) → IsTrue (scheme_is s gift.space Negotiate) → IsAskedBehind q past → (list_any is_no_mechanism past ≡ false) × (t ≡ first_target s)
+      by : IsTrue (target_is s gift.space t) → IsTrue (scheme_is s gift.space Negotiate) → IsAskedBehind q past → (list_any is_no_mechanism past ≡ false) × (t ≡ first_target s) × IsTrue s.has_negotiate
       by target m (seen, space, ts, o, b, e) =
           let r : IsPast s (AskedFor q seen ∷ Called (Select space ts) (Lead q o) ∷ b) = subst (IsPast s) e run.0 in
           let held_in : gift.space ≡ space_prompted past q = (may_hold_known s gift (space_prompted past q) terms (both_of (not (text == 0)) (may_hold s gift (space_prompted past q) terms) a).1).1 in
           let got = gained_gift b space ts (Lead q o) gift t r.0 (held_in ∙ (ap (λ x. space_prompted x q) e ∙ prompt_space q space ts o b)) m target in
-          (ap (list_any is_no_mechanism) e ∙ got.0, got.1)
+          (ap (list_any is_no_mechanism) e ∙ got.0, got.1, got.2)
   gained_answer past t q text terms (Gave gift) run f a n = absurd (false≢true f)
   gained_answer past t q text terms _ run f a n = inl n
 
@@ -186,12 +215,12 @@ module _ (s : Setting) (means : IsNumbered s) where
       → IsTrue (negotiating s (held_prompted s t (terms_followed past q) reply (held s past t))) → IsGained s past t
   gained_take past t q (Gave gift) run f a n = gained_if s (target_is s gift.space t) (gift_held gift (terms_followed past q) None) (held s past t) (λ target m. inr (by target m (taken_from s past q (Gave gift) run))) (λ m. inl m) n
     where
-      by : IsTrue (target_is s gift.space t) → IsTrue (scheme_is s gift.space Negotiate) → IsFollowBehind q past → (list_any is_no_mechanism past ≡ false) × (t ≡ first_target s)
+      by : IsTrue (target_is s gift.space t) → IsTrue (scheme_is s gift.space Negotiate) → IsFollowBehind q past → (list_any is_no_mechanism past ≡ false) × (t ≡ first_target s) × IsTrue s.has_negotiate
       by target m (space, ts, b, e) =
           let r : IsPast s (Called (Select space ts) (Follow q) ∷ b) = subst (IsPast s) e run.0 in
           let held_in : gift.space ≡ space_prompted past q = (may_hold_known s gift (space_prompted past q) (terms_followed past q) a).1 in
           let got = gained_gift b space ts (Follow q) gift t r (held_in ∙ (ap (λ x. space_prompted x q) e ∙ followed_space q space ts b)) m target in
-          (ap (list_any is_no_mechanism) e ∙ got.0, got.1)
+          (ap (list_any is_no_mechanism) e ∙ got.0, got.1, got.2)
   gained_take past t q (Given gift evicted) run f a n = absurd (false≢true f)
   gained_take past t q _ run f a n = inl n
 
@@ -233,6 +262,26 @@ module _ (s : Setting) (means : IsNumbered s) where
       inl (kept_if (held_replied s t reply) (λ h k. gained_if s (challenges_target s reply t && is_none (deciding s reply t h)) None (Some h) (λ b x. absurd (false≢true x)) (λ x. x) k) (held s past t) n)
   gained (LinkLost link) past run t n = inl (changed_if held_lost (λ h. refl) (held s past t) n)
   gained _ past run t n = inl n
+
+  -- where `negotiate` challenges are passed over nothing of that kind is held
+  pub none_negotiating : s.has_negotiate ≡ false → (past : List Event) → IsPast s past → (t : Target) → IsTrue (negotiating s (held s past t)) → ⊥
+  none_negotiating never [] run t n = false≢true n
+  none_negotiating never (event ∷ past) run t n = at (none_negotiating never past run.0 t) (gained event past run t n)
+    where
+      at : (IsTrue (negotiating s (held s past t)) → ⊥) → IsGained s past t → ⊥
+      at earlier (inl before) = earlier before
+      at earlier (inr now) = false≢true (sym never ∙ now.2)
+
+  -- and the provider is never asked, so it never lacks a mechanism
+  pub none_missing : s.has_negotiate ≡ false → (past : List Event) → IsPast s past → list_any is_no_mechanism past ≡ false
+  none_missing never [] run = refl
+  none_missing never (Stepped t step ∷ past) run = let wanted = step_for s past t step run in absurd (by wanted.0 wanted.2)
+    where
+      by : (asking : Asking) → IsStepFor s past t asking → ⊥
+      by (Start name identity) (h, held_now, n, none, same) = none_negotiating never past run.0 t (ap (negotiating s) held_now ∙ n)
+      by (GoOn peer) (link, reply, before, h, p, held_then, d, stay, c) =
+          none_negotiating never before (subst (IsPast s) p run.0).0 t (ap (negotiating s) held_then ∙ negotiating_decides s reply t h (Some peer) d)
+  none_missing never (_ ∷ past) run = none_missing never past run.0
 
   -- only the first target of the route holds one
   pub one_target : (past : List Event) → IsPast s past → (t : Target) → IsTrue (negotiating s (held s past t)) → t ≡ first_target s
@@ -333,36 +382,8 @@ module _ (s : Setting) (means : IsNumbered s) where
 
       by_step : is_some (option_and_then (λ (h : Held). h.context) (held s past t)) ≡ false → (asking : Asking) → IsStepFor s past t asking → ((t ≡ Proxy) ⊎ (t ≡ Server)) → drops s (Stepped t NoMechanism ∷ past) + holders (Stepped t NoMechanism ∷ past) ≤ 1
       by_step e (Start name identity) (h, held_now, n, none, same) route = starting e h held_now n route
-      by_step e (GoOn peer) (link, reply, before, h, p, held_then, d, stay, c) route = starting e h held_now negotiate route
+      by_step e (GoOn peer) (link, reply, before, h, p, held_then, d, stay, c) route = starting e h held_now (negotiating_decides s reply t h (Some peer) d) route
         where
-          negotiate : IsTrue (scheme_is s h.gift.space Negotiate)
-          negotiate = at (scheme_is s h.gift.space Negotiate) refl
-            where
-              is_negotiating : Option Decision → Bool
-              is_negotiating (Some (Negotiating o)) = true
-              is_negotiating _ = false
-
-              offers : (o : Option Offer) → is_negotiating (option_map Offering o) ≡ false
-              offers None = refl
-              offers (Some x) = refl
-
-              inner : (o : Option ProtectionSpace) (place : Site) → is_negotiating (option_and_then (λ named. option_map Offering (find (λ offered. same_space (space_at place offered) named) (supported false reply))) o) ≡ false
-              inner None place = refl
-              inner (Some named) place = offers (find (λ offered. same_space (space_at place offered) named) (supported false reply))
-
-              outer : (o : Option Site) → is_negotiating (option_and_then (λ place. option_and_then (λ named. option_map Offering (find (λ offered. same_space (space_at place offered) named) (supported false reply))) (s.space_of h.gift.space)) o) ≡ false
-              outer None = refl
-              outer (Some place) = inner (s.space_of h.gift.space) place
-
-              at : (b : Bool) → scheme_is s h.gift.space Negotiate ≡ b → scheme_is s h.gift.space Negotiate ≡ true
-              at true e = e
-              at false e =
-                  absurd
-                  (false≢true
-                  (sym (outer (site s.request t))
-                  ∙ (ap (λ b. is_negotiating (if b then option_map (λ challenge. Negotiating (token_in challenge.body)) (negotiate_challenge reply) else option_and_then (λ place. option_and_then (λ named. option_map Offering (find (λ offered. same_space (space_at place offered) named) (supported false reply))) (s.space_of h.gift.space)) (site s.request t))) (sym e)
-                  ∙ ap is_negotiating d)))
-
           held_now : held s past t ≡ Some h
           held_now =
               ap (λ x. held s x t) p ∙ (ap (option_and_then (held_replied s t reply)) held_then

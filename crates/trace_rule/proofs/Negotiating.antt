@@ -125,9 +125,9 @@ chosen_space s means past space terms c = at (site s.request c.target) refl c.is
     at None e k = let clash : None ≡ Some space = k in cc
     at (Some place) e k = (place, e, means (space_at place c.offered) space k)
 
--- a Negotiate space is chosen for the first target alone, and not once there is no mechanism
+-- a Negotiate space is chosen for the first target alone, not once there is no mechanism, and only where `negotiate` challenges are answered
 pub negotiate_choice : (s : Setting) → IsNumbered s → (past : List Event) (space terms : ℕ) → IsChoice s past space terms → IsTrue (scheme_is s space Negotiate) → (t : Target) → IsTrue (target_is s space t)
-    → (list_any is_no_mechanism past ≡ false) × (t ≡ first_target s)
+    → (list_any is_no_mechanism past ≡ false) × (t ≡ first_target s) × IsTrue s.has_negotiate
 negotiate_choice s means past space terms c negotiate t target = at (negotiates s past c.target) refl
   where
     found : (place : Site) × (site s.request c.target ≡ Some place) × (s.space_of space ≡ Some (space_at place c.offered))
@@ -145,14 +145,14 @@ negotiate_choice s means past space terms c negotiate t target = at (negotiates 
     none_if true h = absurd (false≢true h)
     none_if false h = refl
 
-    at : (b : Bool) → negotiates s past c.target ≡ b → (list_any is_no_mechanism past ≡ false) × (t ≡ first_target s)
+    at : (b : Bool) → negotiates s past c.target ≡ b → (list_any is_no_mechanism past ≡ false) × (t ≡ first_target s) × IsTrue s.has_negotiate
     at false e =
         let plain : Plain c.offered = subst PlainIf (sym (ap (λ x. best (supported x c.reply)) e) ∙ c.is_best) (best_plain (supported false c.reply) (all_plain (challenges c.reply))) in
         absurd (false≢true (sym plain ∙ scheme))
     at true e =
         let both = parts (s.has_negotiate && (same_target c.target Proxy || not (is_proxied s))) (not (list_any is_no_mechanism past)) e in
-        let target = (parts s.has_negotiate (same_target c.target Proxy || not (is_proxied s)) both.0).1 in
-        (none_if (list_any is_no_mechanism past) both.1, same ∙ first_of_route s c.reply c.target c.of_target target)
+        let route = parts s.has_negotiate (same_target c.target Proxy || not (is_proxied s)) both.0 in
+        (none_if (list_any is_no_mechanism past) both.1, same ∙ first_of_route s c.reply c.target c.of_target route.1, route.0)
 
 -- WHERE A PROMPT COMES FROM
 
