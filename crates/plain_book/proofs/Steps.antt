@@ -20,7 +20,7 @@ word_of count epoch = record { count = count; epoch = epoch }
 from_one : (n m : ℕ) → 1 ≤ n → 1 ≤ m → n - 1 ≡ m - 1 → n ≡ m
 from_one n m a b same = omega arith
 
-place_of : (words : List Drawn) (n : ℕ) → 1 ≤ n → numbered words n ≡ slice_get words (n - 1)
+pub place_of : (words : List Drawn) (n : ℕ) → 1 ≤ n → numbered words n ≡ slice_get words (n - 1)
 place_of words n from = ap (λ b. cond {A = Option Drawn} b None (slice_get words (n - 1))) (positive n from)
   where
     positive : (m : ℕ) → 1 ≤ m → (m == 0) ≡ false
@@ -52,7 +52,7 @@ word_same c c' e e' same_c same_e = cc
 not_same : (m n : ℕ) → m ≢ n → (m == n) ≡ false
 not_same m n other = grind (arith, nat_tests)
 
-one_step : (words : List Drawn) (n c e : ℕ) (step : Step) → 1 ≤ n → 1 ≤ nonce_in step → numbered words n ≡ Some (word_of c e) → numbered (with_step words step) n ≡ Some (word_of (more (is_draw n step) c) (more (is_retirement n step) e))
+pub one_step : (words : List Drawn) (n c e : ℕ) (step : Step) → 1 ≤ n → 1 ≤ nonce_in step → numbered words n ≡ Some (word_of c e) → numbered (with_step words step) n ≡ Some (word_of (more (is_draw n step) c) (more (is_retirement n step) e))
 one_step words n c e (Draw m) from from_m is = at (cases_eq m n)
   where
     drawn : draws_of words n ≡ c

@@ -17,12 +17,14 @@ pub struct PlainWords {
 }
 
 impl Model for PlainWords {
-    ghost use Rattle.std.specs.Prelude.{List};
+    ghost use Rattle.std.specs.Prelude.{List, length, ◌≤◌};
     ghost use Rattle.auth_events.specs.declared.journal.Drawn.{Drawn};
 
     ghost Value = { List Drawn };
 
     ghost view = { λ w. w.words.items };
+
+    ghost invariant = { λ w. length w.words.items ≤ 32768 };
 }
 
 impl PlainWords {
@@ -34,6 +36,14 @@ impl PlainWords {
         let unused = Drawn { count: 0, epoch: 0 };
         let words = vec![in alloc; unused; nonces as usize]?;
         Ok(PlainWords { words })
+    }
+
+    /// How many nonces there are.
+    pub fn nonces(&self) -> u32
+        ensures nonces { result ≡ length self.now }
+        ensures few { length self.now ≤ 32768 }
+    {
+        self.words.len() as u32
     }
 
     /// Draws the nonce: the count is the number of its draws, this one among them, and the epoch is that
