@@ -168,7 +168,7 @@ module _ (roster : Roster) (names : Tables) where
           (first (begins e.call) refl (and_left _ (allowed_call roster names entries e.request e.call) legal.1.0) (subst (λ k. count_by (λ (x : Entry). begins x.call) (own entries k) ≤ 1) (sym is) before)) in
           omega (arith, sum_by-cons (λ (x : Entry). cond (begins x.call) 1 0) e (own entries r), here)
 
-  begun_few : (entries : List Entry) → IsLegalPast roster names entries → count_by (λ (e : Entry). begins e.call) entries ≤ length roster.requests
+  pub begun_few : (entries : List Entry) → IsLegalPast roster names entries → count_by (λ (e : Entry). begins e.call) entries ≤ length roster.requests
   unfolding share
   begun_few entries legal =
       omega (

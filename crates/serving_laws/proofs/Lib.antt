@@ -1,0 +1,9 @@
+pub mod Entries
+pub mod Open
+pub mod Knowing
+pub mod Calling
+pub mod Cutting
+pub mod Reading
+pub mod Rooms
+pub mod Words
+pub mod Meeting
