@@ -7,3 +7,4 @@ pub mod Reading
 pub mod Rooms
 pub mod Words
 pub mod Meeting
+pub mod Serving

@@ -6,3 +6,4 @@ pub mod Rooms
 pub mod Draws
 pub mod Meeting
 pub mod Laws
+pub mod Service
