@@ -3,3 +3,4 @@ pub mod PromptLemmas
 pub mod ReplyLemmas
 pub mod EventLemmas
 pub mod FirstTrace
+pub mod Retiring

@@ -3,6 +3,7 @@
 #![tactic(auto)]
 
 mod book_calls;
+mod calls;
 mod challenges;
 mod exchange;
 mod gear;
