@@ -8,3 +8,4 @@ pub mod Rooms
 pub mod Words
 pub mod Meeting
 pub mod Serving
+pub mod Naming

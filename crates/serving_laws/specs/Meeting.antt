@@ -1,5 +1,6 @@
 -- The names that a request makes are met in its calls.
-use Rattle.std.specs.Prelude.{ℕ, ◌≡◌, ◌+◌, ◌==◌, ◌&&◌, nat_le, Bool, true, IsTrue, List, [], ◌∷◌, length, filter_map, Option}
+use Rattle.std.specs.Prelude.{ℕ, ◌≡◌, ◌+◌, ◌==◌, ◌&&◌, nat_le, Bool, true, IsTrue, List, [], ◌∷◌, length, filter_map, Option, None}
+use Rattle.std.specs.List.{cons_option}
 use Rattle.auth_events.specs.declared.journal.Call.{Call}
 use Rattle.auth_events.specs.declared.journal.Entry.{Entry}
 use Rattle.auth_events.specs.Tables.{Tables, greatest, larger}
@@ -23,9 +24,22 @@ abbrev pub are_in_turn_behind : ℕ → List ℕ → Bool
 are_in_turn_behind k [] = true
 are_in_turn_behind k (n ∷ earlier) = n == k + length earlier + 1 && are_in_turn_behind k earlier
 
--- the entries' calls name each space, terms and text that is named anew: spaces and terms in the order of their numbers, and each text once, in its turn
-pub record AreNamesMet (old new : Tables) (entries : List Entry) : Type 0 where
-  pub spaces : IsTrue (are_met (length old.spaces) (numbers_of space_in entries) (length new.spaces))
-  pub terms : IsTrue (are_met (length old.terms) (numbers_of terms_in entries) (length new.terms))
-  pub in_turn : IsTrue (are_in_turn_behind (length old.texts) (numbers_of text_in entries))
-  pub texts : length new.texts ≡ length old.texts + length (numbers_of text_in entries)
+-- the numbers that were told for the next call, which no call names yet
+pub record Pending : Type 0 where
+  pub space : Option ℕ
+  pub terms : Option ℕ
+  pub text : Option ℕ
+
+abbrev pub none_pending : Pending
+none_pending = record { space = None; terms = None; text = None }
+
+-- the entries' calls, and the next one with what is pending, name each space, terms and text that is named anew: spaces and terms in the order of their numbers, and each text once, in its turn
+pub record AreMetWith (old new : Tables) (entries : List Entry) (pending : Pending) : Type 0 where
+  pub spaces : IsTrue (are_met (length old.spaces) (cons_option pending.space (numbers_of space_in entries)) (length new.spaces))
+  pub terms : IsTrue (are_met (length old.terms) (cons_option pending.terms (numbers_of terms_in entries)) (length new.terms))
+  pub in_turn : IsTrue (are_in_turn_behind (length old.texts) (cons_option pending.text (numbers_of text_in entries)))
+  pub texts : length new.texts ≡ length old.texts + length (cons_option pending.text (numbers_of text_in entries))
+
+-- nothing is pending
+abbrev pub AreNamesMet : Tables → Tables → List Entry → Type 0
+AreNamesMet old new entries = AreMetWith old new entries none_pending
