@@ -25,7 +25,7 @@ own_calls r (Called call reply ∷ past) before =
     ∙ ap (λ (l : List Entry). record { caller = 1; request = r; call = call; reply = reply } ∷ l) (own_calls r past before)
 own_calls r (_ ∷ past) before = own_calls r past before
 
-made_calls : (r : ℕ) (past : List Event) → map made_in (entries_of r past) ≡ calls past
+pub made_calls : (r : ℕ) (past : List Event) → map made_in (entries_of r past) ≡ calls past
 made_calls r [] = refl
 made_calls r (Called call reply ∷ past) = ap (λ l. record { call = call; reply = reply } ∷ l) (made_calls r past)
 made_calls r (_ ∷ past) = made_calls r past

@@ -9,3 +9,4 @@ pub mod Words
 pub mod Meeting
 pub mod Serving
 pub mod Naming
+pub mod Named

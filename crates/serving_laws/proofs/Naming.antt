@@ -108,7 +108,7 @@ terms_pending old names entries pending s terms n nonce met none is = at (terms_
         (record {
           spaces = met.spaces;
           terms = met_named (length old.terms) numbers names.terms (names.terms ++ name ∷ []) (record { space = s; terms = terms; nonce = nonce }) n before
-          (subst (λ (t : Tables). numbered t.terms n ≡ Some (record { space = s; terms = terms; nonce = nonce })) same told) (inr (name, refl, unnamed_terms unnamed));
+              (subst (λ (t : Tables). numbered t.terms n ≡ Some (record { space = s; terms = terms; nonce = nonce })) same told) (inr (name, refl, unnamed_terms unnamed));
           in_turn = met.in_turn;
           texts = met.texts;
         })
