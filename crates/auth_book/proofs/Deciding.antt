@@ -26,16 +26,16 @@ use Rattle.prompt_queue.specs.Histories.{prompt_in, prompts_of, reply_joined, re
 use Rattle.prompt_queue.proofs.Prompting.{joins, prompt_found}
 use Rattle.prompt_queue.proofs.HistoryLemmas.{may_tell, takes_end}
 use Rattle.auth_book.specs.declared.index.BookIndex.{BookIndex}
-use Rattle.auth_book.specs.SiteNumbers.{site_no, site_number}
+use Rattle.auth_book.specs.SiteNumbers.{site_no}
 use Rattle.auth_book.specs.Indices.{StandsFor, request_row, was_default_for}
-use Rattle.auth_book.specs.Replies.{deepest_at, default_flag, default_in, epoch_in, evicted_in, held_of, led_in, next_in, ready_in, reply_in, select_in, url_in}
+use Rattle.auth_book.specs.Replies.{deepest_at, default_flag, default_in, epoch_in, evicted_in, held_of, led_in, next_in, ready_in, reply_in, select_in, site_at, url_in}
 use Rattle.auth_book.specs.Parts.{notes_at, part_of}
-use Rattle.auth_book.proofs.Here.{goes_here, held_here, held_none, live_named, zero_unheld}
+use Rattle.auth_book.proofs.Here.{goes_here, held_here, held_none, zero_unheld}
 use Rattle.auth_book.proofs.Replies.{keeps, next}
 use Rattle.auth_book.proofs.Standing.{nonce_range}
 use Rattle.auth_book.proofs.PagesOf.{pages_of}
 use Rattle.auth_book.proofs.Leads.{led_is}
-use Rattle.auth_book.proofs.SiteLemmas.{agree}
+use Rattle.auth_book.proofs.LiveSites.{tells_site}
 use Rattle.auth_book.proofs.Defaults.{IsAmbient, ambient_of, default_is}
 
 given_same : (g h : Gift) (e f : ℕ) → g ≡ h → e ≡ f → Given g e ≡ Given h f
@@ -164,8 +164,8 @@ module _ (roster : Roster) (names : Tables) (are : AreNames names) (few : AreFew
 
   found_here : (place : Site) (path : List ℕ) → deepest_at index roster names path place ≡ unwrap_or (by_path roster names past place path) 0
   found_here place path =
-      deepest_is roster names (site_no names) (is_of_partition names place.partition) past legal (notes_at (part_of index.partitions place.partition)) (stands.paths place.partition) (site_number names place) place path (site_partition names place)
-      (λ s lives. agree names place s (live_named roster names past legal s lives))
+      deepest_is roster names (site_no names) (is_of_partition names place.partition) past legal (notes_at (part_of index.partitions place.partition)) (stands.paths place.partition) (site_at index names place) place path (site_partition names place)
+      (tells_site roster names past legal index stands place)
 
   preempted : (r : ℕ) (target : Target) → reply_in index roster names r (Preempt target) ≡ answer roster names past r (Preempt target)
   preempted r target = at (option_and_then (λ request. site request target) (numbered roster.requests r))

@@ -1,5 +1,6 @@
 pub mod Numbered
 pub mod Parts
+pub mod PartNumbers
 pub mod RowSteps
 pub mod PagesOf
 pub mod Here
@@ -10,6 +11,7 @@ pub mod Telling
 pub mod Standing
 pub mod Leads
 pub mod SiteLemmas
+pub mod LiveSites
 pub mod Defaults
 pub mod Deciding
 pub mod Fitting

@@ -15,7 +15,7 @@ use Rattle.auth_book.specs.Parts.{ArePartRows, new_part, part_number, part_of, w
 use Rattle.auth_book.specs.Steps.{parts_told, parts_with}
 use Rattle.auth_book.proofs.Numbered.{others, place_of, written}
 
-abbrev is_its : List ℕ → PartRow → Bool
+abbrev pub is_its : List ℕ → PartRow → Bool
 is_its partition part = bytes_eq part.partition partition
 
 -- THE RECORD OF A PARTITION
@@ -63,10 +63,13 @@ position_kept t n (z ∷ xs) zero x y there same =
 position_kept t n (z ∷ xs) (suc j) x y there same =
     ap (λ o. cond (t z) (Some n) o) (position_kept t (n + 1) xs j x y there same)
 
-number_kept : (parts : List PartRow) (k : ℕ) (old new : PartRow) (q : List ℕ) → numbered parts k ≡ Some old → new.partition ≡ old.partition → part_number (set_number parts k new) q ≡ part_number parts q
-number_kept parts k old new q there same =
-    ap (λ o. unwrap_or (option_map suc o) 0)
+pub name_kept : (parts : List PartRow) (k : ℕ) (old new : PartRow) (q : List ℕ) → numbered parts k ≡ Some old → new.partition ≡ old.partition → number_of (is_its q) (set_number parts k new) ≡ number_of (is_its q) parts
+name_kept parts k old new q there same =
+    ap (option_map suc)
     (position_kept (is_its q) 0 parts (k - 1) old new (sym (place_of parts k (numbered_in parts k (ap is_some there)).0) ∙ there) (ap (λ p. bytes_eq p q) same))
+
+number_kept : (parts : List PartRow) (k : ℕ) (old new : PartRow) (q : List ℕ) → numbered parts k ≡ Some old → new.partition ≡ old.partition → part_number (set_number parts k new) q ≡ part_number parts q
+number_kept parts k old new q there same = ap (λ o. unwrap_or o 0) (name_kept parts k old new q there same)
 
 module _ (told : PartRow → PartRow) (same : (part : PartRow) → (told part).partition ≡ part.partition) where
   -- numbers stay
@@ -115,6 +118,30 @@ number_more t xs y some = ap (option_map suc) (position_more t 0 xs y (at (posit
     at : (o : Option ℕ) → is_some (option_map suc o) ≡ true → is_some o ≡ true
     at None is = is
     at (Some k) is = refl
+
+position_pushed : {A : Type 0} (t : A → Bool) (k : ℕ) (xs : List A) (y : A) → position_from t k xs ≡ None → t y ≡ true → position_from t k (xs ++ y ∷ []) ≡ Some (k + length xs)
+position_pushed t k [] y none passes = ap (λ b. cond {A = Option ℕ} b (Some k) None) passes ∙ ap Some (omega arith)
+position_pushed t k (x ∷ xs) y none passes = at (t x) none (λ rest. position_pushed t (k + 1) xs y rest passes)
+  where
+    at : (b : Bool) → cond b (Some k) (position_from t (k + 1) xs) ≡ None → (position_from t (k + 1) xs ≡ None → position_from t (k + 1) (xs ++ y ∷ []) ≡ Some (k + 1 + length xs)) → cond b (Some k) (position_from t (k + 1) (xs ++ y ∷ [])) ≡ Some (k + suc (length xs))
+    at true none' later = absurd cc
+    at false none' later = later none' ∙ ap Some (omega arith)
+
+position_passed : {A : Type 0} (t : A → Bool) (k : ℕ) (xs : List A) (y : A) → t y ≡ false → position_from t k (xs ++ y ∷ []) ≡ position_from t k xs
+position_passed t k [] y fails = ap (λ b. cond {A = Option ℕ} b (Some k) None) fails
+position_passed t k (x ∷ xs) y fails = ap (λ o. cond (t x) (Some k) o) (position_passed t (k + 1) xs y fails)
+
+-- the first that passes comes last
+pub number_pushed : {A : Type 0} (t : A → Bool) (xs : List A) (y : A) → number_of t xs ≡ None → t y ≡ true → number_of t (xs ++ y ∷ []) ≡ Some (length xs + 1)
+number_pushed t xs y none passes = ap (option_map suc) (position_pushed t 0 xs y (at (position_from t 0 xs) none) passes) ∙ ap Some (omega arith)
+  where
+    at : (o : Option ℕ) → option_map suc o ≡ None → o ≡ None
+    at None is = refl
+    at (Some k) is = absurd cc
+
+-- one that doesn't pass comes last
+pub number_passed : {A : Type 0} (t : A → Bool) (xs : List A) (y : A) → t y ≡ false → number_of t (xs ++ y ∷ []) ≡ number_of t xs
+number_passed t xs y fails = ap (option_map suc) (position_passed t 0 xs y fails)
 
 some_number : (parts : List PartRow) (q : List ℕ) → IsTrue (is_some (part_of parts q)) → is_some (number_of (is_its q) parts) ≡ true
 some_number parts q some = at (number_of (is_its q) parts) some

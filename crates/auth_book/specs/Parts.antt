@@ -1,5 +1,9 @@
 -- The records of partitions, by number.
-use Rattle.std.specs.Prelude.{◌≡◌, ℕ, is_some, List, [], ◌∷◌, ◌++◌, Option, Some, option_map, unwrap_or, bytes_eq, if◌then◌else◌}
+use Rattle.std.specs.Prelude.{◌≡◌, ℕ, is_some, List, [], ◌∷◌, ◌++◌, Option, Some, option_map, unwrap_or, bytes_eq, if◌then◌else◌, Vec}
+use Rattle.std.specs.BTreeMap.{BTreeMap, get_by}
+use Rattle.std.specs.Cmp.Lexicographic.{slice_cmp}
+use Rattle.std.specs.Ordering.{nat_cmp}
+use Rattle.std.specs.declared.alloc.Global.{Global}
 use Rattle.spaces.specs.Sites.{numbered}
 use Rattle.auth_events.specs.Tables.{number_of}
 use Rattle.auth_cache.specs.declared.cache.Held.{Held}
@@ -30,6 +34,15 @@ new_part partition =
 -- with a record of the partition, where it has none
 abbrev pub with_part : List PartRow → List ℕ → List PartRow
 with_part parts partition = if is_some (part_of parts partition) then parts else parts ++ new_part partition ∷ []
+
+-- the number that the map has at a name
+abbrev pub number_at : BTreeMap (Vec ℕ Global) ℕ → List ℕ → Option ℕ
+number_at numbers name = get_by (λ key. slice_cmp nat_cmp name key.items) numbers
+
+-- the map has the number of each partition's record
+abbrev pub HasNumbers : BTreeMap (Vec ℕ Global) ℕ → List PartRow → Type 0
+HasNumbers numbers parts =
+    (partition : List ℕ) → number_at numbers partition ≡ number_of (λ part. bytes_eq part.partition partition) parts
 
 -- each partition has one record, with room for 32 live spaces and their directories
 pub record ArePartRows (parts : List PartRow) : Type 0 where

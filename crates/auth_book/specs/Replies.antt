@@ -1,5 +1,5 @@
 -- What an index replies.
-use Rattle.std.specs.Prelude.{ℕ, ◌+◌, ◌==◌, ◌&&◌, Bool, true, false, not, is_some, List, Option, None, Some, option_map, option_and_then, unwrap_or, if◌then◌else◌}
+use Rattle.std.specs.Prelude.{ℕ, ◌+◌, ◌==◌, ◌&&◌, Bool, true, false, not, is_some, List, find, Option, None, Some, option_map, option_and_then, unwrap_or, if◌then◌else◌}
 use Rattle.spaces.specs.declared.roster.Roster.{Roster}
 use Rattle.spaces.specs.declared.site.Site.{Site}
 use Rattle.spaces.specs.declared.site.Target.{Target}
@@ -10,7 +10,7 @@ use Rattle.auth_events.specs.declared.journal.Call.{Call}
 use Rattle.auth_events.specs.declared.journal.Call.TheVariants.{Begin, Preempt, Select, Reject, Renew, Answer, Lose, Take, Note, End, Draw}
 use Rattle.auth_events.specs.declared.journal.BookReply.{BookReply}
 use Rattle.auth_events.specs.declared.journal.BookReply.TheVariants.{Begun, Ready, Nothing, Url, Cached, Default, Removed, Kept, Renewed, Given, Cancelled, Lost, Pending, Noted, Ended}
-use Rattle.auth_events.specs.Book.{has_url_identity, is_allowed_origin, is_negotiate, is_server, nonce_of, path_of, same_gift, scheme_is, target_of}
+use Rattle.auth_events.specs.Book.{has_url_identity, is_allowed_origin, is_negotiate, is_of_site, is_server, nonce_of, path_of, same_gift, scheme_is, target_of}
 use Rattle.auth_events.specs.Tables.{Tables}
 use Rattle.auth_cache.specs.declared.cache.Held.{Held}
 use Rattle.auth_cache.specs.Cached.{evicted, held_in}
@@ -21,7 +21,6 @@ use Rattle.prompt_queue.specs.Prompts.{ending_of, joined}
 use Rattle.prompt_queue.specs.Histories.{reply_joined, reply_taken}
 use Rattle.auth_book.specs.declared.index.BookIndex.{BookIndex}
 use Rattle.auth_book.specs.declared.index.RequestRow.{RequestRow}
-use Rattle.auth_book.specs.SiteNumbers.{site_number}
 
 -- `done` where the space holds the gift
 abbrev pub kept_by : Gift → BookReply → Option Held → BookReply
@@ -58,6 +57,10 @@ module _ (index : BookIndex) where
   abbrev pub givings_in : ℕ → ℕ
   givings_in s = unwrap_or (option_map (λ row. row.givings) (numbered index.spaces.items s)) 0
 
+  -- the site number in the space's row, or 0
+  abbrev pub site_in : ℕ → ℕ
+  site_in s = unwrap_or (option_map (λ row. row.site) (numbered index.spaces.items s)) 0
+
   abbrev pub next_in : ℕ → Gift
   next_in s = record { space = s; ordinal = givings_in s + 1 }
 
@@ -83,10 +86,19 @@ module _ (index : BookIndex) where
   ready_in names None = Nothing
   ready_in names (Some held) = Ready held.gift held.terms (epoch_in names held.terms)
 
+  -- the entry of a live space of the site, where there is one
+  abbrev pub live_at : Tables → Site → Option Held
+  live_at names place =
+      find (λ held. is_of_site names place held.gift.space) (entries_at (part_of index.partitions place.partition))
+
+  -- the number of the site, or 0 where no space of it is live
+  abbrev pub site_at : Tables → Site → ℕ
+  site_at names place = unwrap_or (option_map (λ held. site_in held.gift.space) (live_at names place)) 0
+
   -- the space of the site whose directory covers the path and is the longest, or 0
   abbrev pub deepest_at : Roster → Tables → List ℕ → Site → ℕ
   deepest_at roster names path place =
-      deepest roster (site_number names place) path (notes_at (part_of index.partitions place.partition))
+      deepest roster (site_at names place) path (notes_at (part_of index.partitions place.partition))
 
   -- that of the request's site for the target
   abbrev pub deepest_in : Roster → Tables → ℕ → Target → ℕ

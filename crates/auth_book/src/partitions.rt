@@ -1,8 +1,7 @@
 //! What an index keeps of each partition: its live spaces and their directories. One partition never
 //! puts a space of another out, so each has a cache and directories of its own.
 
-ghost use Rattle.std.specs.Prelude.{◌≡◌, ◌<◌, [], IfOk, IfSome, IsTrue, OnErr, OnOk, length, option_copied, bytes_eq, unwrap_or};
-ghost use Rattle.std.specs.List.{position_from};
+ghost use Rattle.std.specs.Prelude.{◌≡◌, [], IfOk, IfSome, IsTrue, OnErr, OnOk, option_copied};
 ghost use Rattle.spaces.specs.Sites.{numbered};
 ghost use Rattle.auth_cache.specs.Cached.{held_in};
 ghost use Rattle.auth_book.specs.Parts.{entries_at, new_part, notes_at, part_number, part_of, with_part};
@@ -16,6 +15,7 @@ use auth_text::NoMemory;
 use path_lookup::PathIndex;
 use spaces::{Partition, Roster};
 use std::alloc::Global;
+use std::collections::BTreeMap;
 use std::marker::Model;
 
 /// The record of a partition.
@@ -32,32 +32,22 @@ pub struct PartRow {
 #[derive(Drop)]
 pub struct PartRows {
     rows: Vec<PartRow>,
+    /// The number of each record, by the name of its partition.
+    numbers: BTreeMap<Vec<u8>, u32>,
     alloc: Global,
 }
 
 impl Model for PartRows {
     ghost use Rattle.std.specs.Prelude.{List, length, ◌≤◌};
     ghost use Rattle.auth_book.specs.declared.partitions.PartRow.{PartRow};
-    ghost use Rattle.auth_book.specs.Parts.{ArePartRows};
+    ghost use Rattle.auth_book.specs.Parts.{ArePartRows, HasNumbers};
 
     ghost Value = { List PartRow };
 
     ghost view = { λ p. p.rows.items };
 
-    ghost invariant = { λ p. ArePartRows p.rows.items × (length p.rows.items ≤ 4294967295) };
-}
-
-fn is_of(row: &PartRow, partition: &Partition) -> bool
-    ensures { result ≡ bytes_eq row.now.partition partition.now }
-{
-    row.partition.name() == partition.name()
-}
-
-fn position_of(rows: &[PartRow], partition: &Partition) -> Option<usize>
-    ensures place { result ≡ position_from (λ row. bytes_eq row.partition partition.now) 0 rows.now }
-    ensures within { IfSome result (λ at. at < length rows.now) }
-{
-    rows.iter().position(|row| is_of(row, partition))
+    ghost invariant = { λ p. ArePartRows p.rows.items × (length p.rows.items ≤ 4294967295)
+        × HasNumbers p.numbers p.rows.items };
 }
 
 fn row_at(rows: &[PartRow], number: u32) -> Option<&PartRow>
@@ -108,6 +98,7 @@ impl PartRows {
     {
         PartRows {
             rows: Vec::new(alloc),
+            numbers: BTreeMap::new(alloc),
             alloc,
         }
     }
@@ -116,8 +107,8 @@ impl PartRows {
     pub fn number_of(&self, partition: &Partition) -> u32
         ensures { result ≡ part_number self.now partition.now }
     {
-        match position_of(self.rows.as_slice(), partition) {
-            Some(at) => at as u32 + 1,
+        match self.numbers.get(partition.name()) {
+            Some(number) => *number,
             None => 0,
         }
     }
@@ -149,7 +140,10 @@ impl PartRows {
             return Err(NoMemory);
         }
         let row = new_row(self.alloc, partition)?;
-        self.rows.push(row)?;
+        let name = Vec::from_slice(self.alloc, partition.name())?;
+        self.rows.reserve(1)?;
+        self.numbers.insert(name, self.rows.len() as u32 + 1)?;
+        self.rows.push_reserved(row);
         Ok(())
     }
 

@@ -13,7 +13,7 @@ ghost use Rattle.auth_book.specs.Fits.{IsReady};
 
 use crate::index::{BookIndex, RequestRow};
 use crate::partitions::PartRow;
-use crate::sites::site_number_of;
+use crate::sites::{live_at, origin_of};
 use auth_cache::Held;
 use auth_events::{BookReply, Call, Gift, Names};
 use identity_sources::{Choice, Facts, choose};
@@ -158,6 +158,26 @@ impl BookIndex {
         }
     }
 
+    /// The site number in the row of the space that the entry is of, or 0.
+    fn site_of(&self, live: Option<Held>) -> u32
+        ensures { result ≡ unwrap_or (option_map
+            (λ held. Replies.site_in self.now held.gift.space) live) 0 }
+    {
+        match live {
+            Some(held) => self.site(held.gift.space),
+            None => 0,
+        }
+    }
+
+    fn site(&self, space: u32) -> u32
+        ensures { result ≡ Replies.site_in self.now space }
+    {
+        match self.spaces.get(space) {
+            Some(row) => row.site,
+            None => 0,
+        }
+    }
+
     fn next_gift(&self, space: u32) -> Gift
         requires { (s : ℕ) → Replies.givings_in self.now s ≤ 131072 }
         ensures { result ≡ Replies.next_in self.now space }
@@ -283,15 +303,22 @@ impl BookIndex {
         let Some(asked) = roster.requests.get(request) else {
             return 0;
         };
-        let Some(site) = site_number_of(asked, names, target) else {
+        let Some(origin) = origin_of(asked, target) else {
             return 0;
         };
-        match self.partitions.of(&asked.partition) {
-            Some(part) => part
-                .paths
-                .deepest(roster, site, path_of(roster, request, target)),
-            None => 0,
-        }
+        let Some(part) = self.partitions.of(&asked.partition) else {
+            return 0;
+        };
+        let live = live_at(
+            names,
+            part.cache.entries(),
+            &asked.partition,
+            target,
+            origin,
+        );
+        let site = self.site_of(live);
+        part.paths
+            .deepest(roster, site, path_of(roster, request, target))
     }
 
     fn answered(&self, space: u32, text: u32) -> BookReply

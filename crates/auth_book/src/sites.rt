@@ -1,11 +1,14 @@
-//! The number of a site: that of the first space that is named of it.
+//! The number of a site, which is that of the first space that is named of it, and the live spaces
+//! of a site.
 
 ghost use Rattle.std.specs.Prelude.{◌≡◌, ◌<◌, IfSome, length};
 ghost use Rattle.std.specs.List.{position_from};
-ghost use Rattle.std.specs.Prelude.{bytes_eq, option_map};
-ghost use Rattle.spaces.specs.Sites.{numbered, same_site, site};
+ghost use Rattle.std.specs.Prelude.{bytes_eq, find, option_copied, option_map};
+ghost use Rattle.spaces.specs.Sites.{same_site, site};
+ghost use Rattle.auth_events.specs.Book as Book;
 ghost use Rattle.auth_book.specs.SiteNumbers.{site_no, site_number};
 
+use auth_cache::Held;
 use auth_events::Names;
 use spaces::{
     Origin, Partition, Request, Site, Space, Target, same_origin, same_site, same_target,
@@ -46,6 +49,23 @@ fn same_bytes(a: &[u8], b: &[u8]) -> bool
     a == b
 }
 
+/// Whether the space is of the site of these parts.
+fn is_of_site(
+    names: &Names,
+    space: u32,
+    partition: &Partition,
+    target: Target,
+    origin: &Origin,
+) -> bool
+    ensures { result ≡ Book.is_of_site names.now
+        (record { partition = partition.now; target = target; origin = origin.now }) space }
+{
+    match names.space(space) {
+        Some(named) => is_site(named.site(), partition, target, origin),
+        None => false,
+    }
+}
+
 /// Whether the site is the one of these parts.
 fn is_site(site: &Site, partition: &Partition, target: Target, origin: &Origin) -> bool
     ensures { result ≡ same_site site.now
@@ -56,46 +76,37 @@ fn is_site(site: &Site, partition: &Partition, target: Target, origin: &Origin) 
         && same_origin(&site.origin, origin)
 }
 
-fn position_of_parts(
-    spaces: &[Space],
+/// The entry of a live space of the site of these parts, where there is one.
+pub fn live_at(
+    names: &Names,
+    entries: &[Held],
     partition: &Partition,
     target: Target,
     origin: &Origin,
-) -> Option<usize>
-    ensures place { result ≡ position_from (λ named. same_site named.site
-        (record { partition = partition.now; target = target; origin = origin.now })) 0 spaces.now }
-    ensures within { IfSome result (λ at. at < length spaces.now) }
+) -> Option<Held>
+    ensures { result ≡ find (λ held. Book.is_of_site names.now
+        (record { partition = partition.now; target = target; origin = origin.now })
+        held.gift.space) entries.now }
 {
-    spaces
-        .iter()
-        .position(|named| is_site(named.site(), partition, target, origin))
-}
-
-/// The number of the site of these parts, or 0.
-fn number_of_parts(names: &Names, partition: &Partition, target: Target, origin: &Origin) -> u32
-    ensures { result ≡ site_number names.now
-        (record { partition = partition.now; target = target; origin = origin.now }) }
-{
-    match position_of_parts(names.spaces(), partition, target, origin) {
-        Some(at) => at as u32 + 1,
-        None => 0,
-    }
-}
-
-/// The number of the request's site for the target, where it has that site.
-pub fn site_number_of(request: &Request, names: &Names, target: Target) -> Option<u32>
-    ensures { result ≡ option_map (site_number names.now) (site request.now target) }
-{
-    match (target, &request.proxy) {
-        (Target::Server, _) => Some(number_of_parts(
-            names,
-            &request.partition,
-            target,
-            &request.place.origin,
-        )),
-        (Target::Proxy, Some(proxy)) => {
-            Some(number_of_parts(names, &request.partition, target, proxy))
+    for held in entries {
+        if is_of_site(names, held.gift.space, partition, target, origin) {
+            return Some(*held);
         }
-        _ => None,
+    }
+    None
+}
+
+/// The origin of the request's site for the target, where it has that site.
+pub fn origin_of(request: &Request, target: Target) -> Option<&Origin>
+    ensures { option_map (λ origin. record {
+      partition = request.now.partition;
+      target = target;
+      origin = origin;
+    }) (option_copied result) ≡ site request.now target }
+{
+    match target {
+        Target::Server => Some(&request.place.origin),
+        Target::Proxy => request.proxy.as_ref(),
+        Target::Socks => None,
     }
 }

@@ -140,6 +140,13 @@ impl AuthCache {
         }
     }
 
+    /// The entries, that of the space touched last at the end. It is no touch.
+    pub fn entries(&self) -> &[Held]
+        ensures { result.now ≡ self.now.entries }
+    {
+        self.entries.as_slice()
+    }
+
     /// What the space holds. It is no touch.
     pub fn get(&self, space: u32) -> Option<Held>
         ensures { result ≡ held_in self.now.entries space }

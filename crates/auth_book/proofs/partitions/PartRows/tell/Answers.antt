@@ -6,6 +6,7 @@ use Rattle.auth_book.specs.declared.partitions.PartRow.{PartRow}
 use Rattle.auth_book.specs.Rooms.{set_number}
 use Rattle.auth_book.specs.Steps.{part_told, parts_with}
 use Rattle.auth_book.proofs.Numbered.{there_at}
+use Rattle.auth_book.proofs.PartNumbers.{numbers_kept}
 use Rattle.auth_book.proofs.Parts.{IsLike, parts_kept}
 use Rattle.auth_book.proofs.partitions.PartRows.tell.Goals as goal
 
@@ -19,6 +20,7 @@ invariant_of-self c =
     let like : IsLike written c.tell_row.new.row = subst (λ row. IsLike written row) (sym c.tell_row.ensures) (record { partition = refl; bound = refl; room = refl }) in (
       parts_kept parts c.args.number written c.tell_row.new.row c.self.invariant.0 there like,
       omega (arith, c.self.invariant.1, length-set parts (c.args.number - 1) c.tell_row.new.row),
+      numbers_kept c.self.inside.numbers parts c.args.number written c.tell_row.new.row there like.partition c.self.invariant.2,
     )
 
 pub returns : goal.returns
