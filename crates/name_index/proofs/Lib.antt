@@ -1,0 +1,3 @@
+pub mod TermsKeyLemmas
+pub mod FoundLemmas
+pub mod Knowing

@@ -1,0 +1,2 @@
+pub mod TermsKeys
+pub mod Found
