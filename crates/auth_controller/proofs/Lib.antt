@@ -4,3 +4,4 @@ pub mod ReplyLemmas
 pub mod EventLemmas
 pub mod FirstTrace
 pub mod Retiring
+pub mod Asking

@@ -1,3 +1,4 @@
 pub mod Links
 pub mod Challenges
 pub mod FirstPath
+pub mod Serving
