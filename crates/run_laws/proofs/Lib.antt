@@ -1,3 +1,10 @@
 pub mod OneCaller
 pub mod Outsides
-pub mod Alike
+pub mod NamedSoFar
+pub mod Histories
+pub mod NamedNext
+pub mod Played
+pub mod Shared
+pub mod Fronts
+pub mod Agreeing
+pub mod Alone

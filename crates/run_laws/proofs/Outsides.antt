@@ -6,8 +6,6 @@ use Rattle.std.proofs.lemmas.Bool.{false≢true, eqb-true}
 use Rattle.auth_text.specs.Login.{Login}
 use Rattle.spaces.specs.declared.roster.Method.{Method}
 use Rattle.spaces.specs.declared.site.Target.{Target}
-use Rattle.auth_events.specs.declared.journal.Call.{Call}
-use Rattle.auth_events.specs.declared.journal.Call.TheVariants.{Answer}
 use Rattle.link_trait.specs.Links.{Stream}
 use Rattle.link_trait.specs.declared.links.LinkName.{LinkName}
 use Rattle.link_trait.specs.declared.prompts.AskSeen.{AskSeen}
@@ -20,20 +18,18 @@ use Rattle.wire_head.specs.Replies.{reply}
 use Rattle.wire_head.specs.declared.reply.Reply.{Reply}
 use Rattle.wire_head.specs.declared.reply.WireFault.{WireFault}
 use Rattle.auth_runs.specs.declared.event.Event.{Event}
-use Rattle.auth_runs.specs.declared.event.Event.TheVariants.{Called, Dialed, DialFailed, Drew, Headed, WriteFailed, ReadFailed, Replied, Broken, LinkLost, AskedFor, Stepped}
+use Rattle.auth_runs.specs.declared.event.Event.TheVariants.{Dialed, DialFailed, Headed, WriteFailed, ReadFailed, Replied, Broken, LinkLost, AskedFor, Stepped}
 use Rattle.trace_rule.specs.Closings.{want}
 use Rattle.trace_rule.specs.Heard.{reply_shown, fault_shown, reply_in, fault_in, rest, is_at_end, is_gone, Hears, IsHeard}
 use Rattle.trace_rule.specs.Holding.{has_reply}
 use Rattle.trace_rule.specs.Moves.{Want}
 use Rattle.trace_rule.specs.Moves.Want.{Calls, Answers, Asks, Steps, Dials, Draws, Writes, Reads, Loses, Ends, Rests}
 use Rattle.trace_rule.specs.Settings.{Setting}
-use Rattle.trace_rule.specs.Traces.{Follows, IsCall, IsAnswer, IsAsk, IsStep, IsDial, IsDraw, IsRead, IsPast, IsRun, IsCut, IsTrace, is_over, is_spent}
-use Rattle.trace_rule.proofs.Deterministic.{nothing_after}
+use Rattle.trace_rule.specs.Traces.{Follows, IsAsk, IsStep, IsDial, IsRead, IsPast, IsRun, IsCut, IsTrace, is_over, is_spent}
 use Rattle.trace_rule.proofs.Knowing.{both_of}
 use Rattle.trace_laws.proofs.Rows.{read_from}
 use Rattle.run_rule.specs.Failing.{is_fault, wants_memory}
 use Rattle.run_rule.specs.Outside.{is_answer_seen, steps_in}
-use Rattle.run_laws.specs.Insides.{insides}
 
 pub or_both : (a b : Bool) → (a || b) ≡ false → (a ≡ false) × (b ≡ false)
 or_both true b none = absurd (false≢true (sym none))
@@ -41,10 +37,10 @@ or_both false b none = (refl, none)
 
 -- READINGS
 
-abbrev IsHead : List Event → Type 0
+abbrev pub IsHead : List Event → Type 0
 IsHead past = (on : ℕ) × (bytes : List ℕ) × (before : List Event) × (past ≡ Headed on bytes ∷ before)
 
-reads_behind : (s : Setting) (past : List Event) → IsPast s past → (link : ℕ) → want s past ≡ Reads link → IsHead past
+pub reads_behind : (s : Setting) (past : List Event) → IsPast s past → (link : ℕ) → want s past ≡ Reads link → IsHead past
 reads_behind s past run link w = let r = read_from s past (ReadFailed link 0) refl (run, subst (λ x. Follows s past x (ReadFailed link 0)) (sym w) refl) in (r.0, r.1, r.2, r.3)
 
 -- an end without a byte shows no reply
@@ -142,11 +138,11 @@ is_stepped steps k t NoMechanism events calm room from = ap (λ xs. seen_of (fir
 is_stepped steps k t (Failed count) events calm room from = absurd (false≢true (sym calm))
 is_stepped steps k t NoMemory events calm room from = absurd (false≢true (sym room))
 
-abbrev behind : ℕ → Event → ℕ
+abbrev pub behind : ℕ → Event → ℕ
 behind k (Stepped t seen) = k + 1
 behind k _ = k
 
-steps_behind : (steps : ℕ → Step) (k : ℕ) (e : Event) (events : List Event) → is_fault e ≡ false → wants_memory e ≡ false → AreFrom steps k (e ∷ events) → AreFrom steps (behind k e) events
+pub steps_behind : (steps : ℕ → Step) (k : ℕ) (e : Event) (events : List Event) → is_fault e ≡ false → wants_memory e ≡ false → AreFrom steps k (e ∷ events) → AreFrom steps (behind k e) events
 steps_behind steps k (Stepped t (Token token)) events calm room from = ap (drop 1) from
 steps_behind steps k (Stepped t Done) events calm room from = ap (drop 1) from
 steps_behind steps k (Stepped t Refused) events calm room from = ap (drop 1) from
@@ -155,12 +151,14 @@ steps_behind steps k (Stepped t (Failed count)) events calm room from = absurd (
 steps_behind steps k (Stepped t NoMemory) events calm room from = absurd (false≢true (sym room))
 steps_behind steps k _ events calm room from = from
 
-insides_behind : (e : Event) (a b : List Event) → insides (e ∷ a) ≡ insides (e ∷ b) → insides a ≡ insides b
-insides_behind (Called call reply) a b same = ap (drop 1) same
-insides_behind (Drew target nonce count epoch) a b same = ap (drop 1) same
-insides_behind _ a b same = same
-
 -- THE NEXT EVENT
+
+-- the outside makes what comes next
+abbrev pub IsOutside : Want → Type 0
+IsOutside (Calls call) = ⊥
+IsOutside (Answers prompt terms) = ⊥
+IsOutside (Draws target nonce) = ⊥
+IsOutside _ = Unit {0}
 
 module _ (s : Setting) (streams : LinkName → Stream) (answer : ℕ → Option Login) (steps : ℕ → Step) where
   abbrev pub is_right : Event → Bool
@@ -168,11 +166,8 @@ module _ (s : Setting) (streams : LinkName → Stream) (answer : ℕ → Option 
   is_right _ = true
 
   -- what the event is by itself: no fault, no want of memory, and the answer that the outside has
-  abbrev IsCalm : Event → Type 0
+  abbrev pub IsCalm : Event → Type 0
   IsCalm e = (is_fault e ≡ false) × (wants_memory e ≡ false) × IsTrue (is_right e)
-
-  abbrev IsNext : ℕ → List Event → Event → List Event → Type 0
-  IsNext k past e events = Follows s past (want s past) e × Hears streams s.request.method s.number e past × IsCalm e × AreFrom steps k (e ∷ events)
 
   same_ask : (n : ℕ) (e f : Event) → IsAsk n e → IsAsk n f → IsCalm e → IsCalm f → e ≡ f
   same_ask n (AskedFor p x) (AskedFor q y) g h c d =
@@ -193,61 +188,32 @@ module _ (s : Setting) (streams : LinkName → Stream) (answer : ℕ → Option 
   same_dial n (Dialed a) _ g h c d = absurd h
   same_dial n _ f g h c d = absurd g
 
-  same_call : (past : List Event) (call : Call) (e f : Event) (a b : List Event) → IsCall s past call e → IsCall s past call f → insides (e ∷ a) ≡ insides (f ∷ b) → e ≡ f
-  same_call past call (Called c x) (Called d y) a b g h same = ap (first_or (Dialed 0)) same
-  same_call past call (Called c x) _ a b g h same = absurd h
-  same_call past call _ f a b g h same = absurd g
-
-  same_answer : (past : List Event) (n k : ℕ) (e f : Event) (a b : List Event) → IsAnswer s past n k e → IsAnswer s past n k f → insides (e ∷ a) ≡ insides (f ∷ b) → e ≡ f
-  same_answer past n k (Called (Answer p x t) c) (Called (Answer q y u) d) a b g h same = ap (first_or (Dialed 0)) same
-  same_answer past n k (Called (Answer p x t) c) _ a b g h same = absurd h
-  same_answer past n k _ f a b g h same = absurd g
-
-  same_draw : (t : Target) (n : ℕ) (e f : Event) (a b : List Event) → IsDraw t n e → IsDraw t n f → insides (e ∷ a) ≡ insides (f ∷ b) → e ≡ f
-  same_draw t n (Drew u x c i) (Drew v y d j) a b g h same = ap (first_or (Dialed 0)) same
-  same_draw t n (Drew u x c i) _ a b g h same = absurd h
-  same_draw t n _ f a b g h same = absurd g
-
-  -- the same comes next
-  same_next : (k : ℕ) (past : List Event) (w : Want) (e f : Event) (a b : List Event) → ((link : ℕ) → w ≡ Reads link → IsHead past)
+  pub same_outside : (k : ℕ) (past : List Event) (w : Want) (e f : Event) (a b : List Event) → IsOutside w → ((link : ℕ) → w ≡ Reads link → IsHead past)
       → Follows s past w e → Follows s past w f → Hears streams s.request.method s.number e past → Hears streams s.request.method s.number f past → IsCalm e → IsCalm f
-      → AreFrom steps k (e ∷ a) → AreFrom steps k (f ∷ b) → insides (e ∷ a) ≡ insides (f ∷ b) → e ≡ f
-  same_next k past (Writes link bytes) e f a b head p q h i c d m n same = p ∙ sym q
-  same_next k past (Loses link) e f a b head p q h i c d m n same = p ∙ sym q
-  same_next k past (Ends outcome) e f a b head p q h i c d m n same = p ∙ sym q
-  same_next k past Rests e f a b head p q h i c d m n same = absurd p
-  same_next k past (Calls call) e f a b head p q h i c d m n same = same_call past call e f a b p q same
-  same_next k past (Answers prompt terms) e f a b head p q h i c d m n same = same_answer past prompt terms e f a b p q same
-  same_next k past (Asks prompt) e f a b head p q h i c d m n same = same_ask prompt e f p q c d
-  same_next k past (Steps target asking) e f a b head p q h i c d m n same = same_step k target e f a b p q c d m n
-  same_next k past (Dials link) e f a b head p q h i c d m n same = same_dial link e f p q c.0 d.0
-  same_next k past (Draws target nonce) e f a b head p q h i c d m n same = same_draw target nonce e f a b p q same
-  same_next k past (Reads link) e f a b head p q h i c d m n same =
+      → AreFrom steps k (e ∷ a) → AreFrom steps k (f ∷ b) → e ≡ f
+  same_outside k past (Writes link bytes) e f a b o head p q h i c d m n = p ∙ sym q
+  same_outside k past (Loses link) e f a b o head p q h i c d m n = p ∙ sym q
+  same_outside k past (Ends outcome) e f a b o head p q h i c d m n = p ∙ sym q
+  same_outside k past Rests e f a b o head p q h i c d m n = absurd p
+  same_outside k past (Calls call) e f a b o head p q h i c d m n = absurd o
+  same_outside k past (Answers prompt terms) e f a b o head p q h i c d m n = absurd o
+  same_outside k past (Draws target nonce) e f a b o head p q h i c d m n = absurd o
+  same_outside k past (Asks prompt) e f a b o head p q h i c d m n = same_ask prompt e f p q c d
+  same_outside k past (Steps target asking) e f a b o head p q h i c d m n = same_step k target e f a b p q c d m n
+  same_outside k past (Dials link) e f a b o head p q h i c d m n = same_dial link e f p q c.0 d.0
+  same_outside k past (Reads link) e f a b o head p q h i c d m n =
       same_shown streams s.request.method s.number link past e f
       (shows streams s.request.method s.number link past e (head link refl) c.0 p h) (shows streams s.request.method s.number link past f (head link refl) d.0 q i)
 
   -- FORWARD
 
-  abbrev IsOn : List Event → List Event → Type 0
+  abbrev pub IsOn : List Event → List Event → Type 0
   IsOn past [] = Unit {0}
   IsOn past (e ∷ events) = (Follows s past (want s past) e × Hears streams s.request.method s.number e past × IsCalm e) × IsOn (e ∷ past) events
 
-  abbrev ends_over : List Event → List Event → Bool
+  abbrev pub ends_over : List Event → List Event → Bool
   ends_over past [] = is_over past
   ends_over past (e ∷ events) = ends_over (e ∷ past) events
-
-  same_on : (k : ℕ) (past a b : List Event) → IsPast s past → IsOn past a → IsOn past b → IsTrue (ends_over past a) → IsTrue (ends_over past b)
-      → AreFrom steps k a → AreFrom steps k b → insides a ≡ insides b → a ≡ b
-  same_on k past [] [] run p q over_a over_b m n same = refl
-  same_on k past [] (f ∷ b) run p q over_a over_b m n same = absurd (nothing_after s past f over_a q.0.0)
-  same_on k past (e ∷ a) [] run p q over_a over_b m n same = absurd (nothing_after s past e over_b p.0.0)
-  same_on k past (e ∷ a) (f ∷ b) run p q over_a over_b m n same =
-      let here : e ≡ f = same_next k past (want s past) e f a b (reads_behind s past run) p.0.0 q.0.0 p.0.1 q.0.1 p.0.2 q.0.2 m n same in
-      subst (λ x. IsOn past (x ∷ b) → IsTrue (ends_over past (x ∷ b)) → AreFrom steps k (x ∷ b) → insides (e ∷ a) ≡ insides (x ∷ b) → e ∷ a ≡ x ∷ b)
-      here
-      (λ on over from alike. ap (λ xs. e ∷ xs) (same_on (behind k e) (e ∷ past) a b (run, p.0.0) p.1 on.1 over_a over
-      (steps_behind steps k e a p.0.2.0 p.0.2.1 m) (steps_behind steps k e b p.0.2.0 p.0.2.1 from) (insides_behind e a b alike)))
-      q over_b n same
 
   abbrev IsHeardPast : List Event → Type 0
   IsHeardPast past = IsHeard streams s.request.method s.number past
@@ -283,13 +249,10 @@ module _ (s : Setting) (streams : LinkName → Stream) (answer : ℕ → Option 
     pub right : IsTrue (list_all is_right events)
     pub stepped : AreFrom steps 1 events
 
-  on : (events : List Event) → IsMade events → IsOn [] events
+  pub on : (events : List Event) → IsMade events → IsOn [] events
   on events made =
       (forward [] events (subst (IsPast s) (sym (append-nil (reverse events))) (whole (reverse events) made.is_trace made.unspent).0)
       (subst IsHeardPast (sym (append-nil (reverse events))) made.heard) made.calm made.room made.right).1
 
-  over : (events : List Event) → IsMade events → IsTrue (ends_over [] events)
+  pub over : (events : List Event) → IsMade events → IsTrue (ends_over [] events)
   over events made = sym (over_forward [] events) ∙ (ap is_over (append-nil (reverse events)) ∙ (whole (reverse events) made.is_trace made.unspent).1)
-
-  pub same_traces : (a b : List Event) → IsMade a → IsMade b → insides a ≡ insides b → a ≡ b
-  same_traces a b p q same = same_on 1 [] a b tt (on a p) (on b q) (over a p) (over b q) p.stepped q.stepped same

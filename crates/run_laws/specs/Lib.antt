@@ -1,2 +1,2 @@
 pub mod Lone
-pub mod Insides
+pub mod Determined

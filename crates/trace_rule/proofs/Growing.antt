@@ -76,7 +76,7 @@ module _ (s m : Setting) (more : KnowsMore s m) where
   identity_same : (gift : Gift) → IsTrue (is_some (s.identity_of gift)) → s.identity_of gift ≡ m.identity_of gift
   identity_same gift known = same_some (s.identity_of gift) (m.identity_of gift) (more.identity_of gift) known
 
-  scheme_same : (n : ℕ) (scheme : Scheme) → IsTrue (is_some (s.space_of n)) → scheme_is s n scheme ≡ scheme_is (grown s m) n scheme
+  pub scheme_same : (n : ℕ) (scheme : Scheme) → IsTrue (is_some (s.space_of n)) → scheme_is s n scheme ≡ scheme_is (grown s m) n scheme
   scheme_same n scheme known = ap (λ o. scheme_is (record s { space_of = λ k. o }) n scheme) (space_same n known)
 
   target_same : (n : ℕ) (t : Target) → IsTrue (is_some (s.space_of n)) → target_is s n t ≡ target_is (grown s m) n t
@@ -120,7 +120,7 @@ module _ (s m : Setting) (more : KnowsMore s m) where
       taken_same t (space_prompted past prompt) (terms_followed past prompt) prompt reply before parts.0 parts.1
   called_same t past _ reply before h = refl
 
-  decision_same : (reply : Reply) (t : Target) (h : Held) → IsTrue (is_some (s.space_of h.gift.space)) → deciding s reply t h ≡ deciding (grown s m) reply t h
+  pub decision_same : (reply : Reply) (t : Target) (h : Held) → IsTrue (is_some (s.space_of h.gift.space)) → deciding s reply t h ≡ deciding (grown s m) reply t h
   decision_same reply t h known = ap (λ o. deciding (record s { space_of = λ k. o }) reply t h) (space_same h.gift.space known)
 
   then_same : {A : Type 0} (f g : Held → Option A) → ((h : Held) → IsKnown s h.gift h.terms → f h ≡ g h) → (o : Option Held) → Knows s o → option_and_then f o ≡ option_and_then g o
@@ -218,7 +218,7 @@ module _ (s m : Setting) (more : KnowsMore s m) where
       ∙ ap (λ f. head s.request.method (uri s) s.request.place.origin (field (grown s m) past Proxy) f (keeps s past)) (same_field past run Server)
       ∙ ap (λ b. head s.request.method (uri s) s.request.place.origin (field (grown s m) past Proxy) (field (grown s m) past Server) b) (same_keeps past run)
 
-  same_go : (past : List Event) → IsPast s past → go s past ≡ go (grown s m) past
+  pub same_go : (past : List Event) → IsPast s past → go s past ≡ go (grown s m) past
   same_go past run =
       go_with_same
       (for_route (λ t. option_and_then (start_for s t) (held s past t))) (for_route (λ t. option_and_then (start_for (grown s m) t) (held (grown s m) past t)))
@@ -311,12 +311,12 @@ module _ (s m : Setting) (more : KnowsMore s m) where
   same_round past run (Replied link reply) = refl
   same_round past run _ = refl
 
-  same_rounds : (past : List Event) → IsPast s past → rounds s past ≡ rounds (grown s m) past
+  pub same_rounds : (past : List Event) → IsPast s past → rounds s past ≡ rounds (grown s m) past
   same_rounds [] run = refl
   same_rounds (event ∷ past) run =
       ap (λ b. (if b then 1 else 0) + rounds s past) (same_round past run.0 event) ∙ ap (λ n. (if is_round (grown s m) past event then 1 else 0) + n) (same_rounds past run.0)
 
-  same_last : (past : List Event) → IsPast s past → is_last_round s past ≡ is_last_round (grown s m) past
+  pub same_last : (past : List Event) → IsPast s past → is_last_round s past ≡ is_last_round (grown s m) past
   same_last past run = ap (λ n. nat_le 17 n) (same_rounds past run)
 
   if_same : (b : Bool) (a x y : Move) → Same x y → Same (if b then a else x) (if b then a else y)
@@ -333,7 +333,7 @@ module _ (s m : Setting) (more : KnowsMore s m) where
       (weighed_same past link reply t (held s before t) (known_held s before earlier t)) (ap (weighed (grown s m) past link reply t) (same_held before earlier t))))
       (ap (λ b. if b then Closes (Refused reply.code Rounds) else weighed (grown s m) past link reply t (held (grown s m) before t)) (same_last past run))
 
-  rejected_same : (past : List Event) → IsPast s past → (a b : Option Held) → a ≡ b → rejected s past a ≡ rejected (grown s m) past b
+  pub rejected_same : (past : List Event) → IsPast s past → (a b : Option Held) → a ≡ b → rejected s past a ≡ rejected (grown s m) past b
   rejected_same past run a b same = ap (λ x. if x then Closes (Refused (code past) Rounds) else known a rejects) (same_last past run) ∙ ap (rejected (grown s m) past) same
 
   stepped_same : (past : List Event) → IsPast s past → (step : StepSeen) (a b : Option Held) → a ≡ b → Same (stepped s past step a) (stepped (grown s m) past step b)
@@ -351,7 +351,7 @@ module _ (s m : Setting) (more : KnowsMore s m) where
   stepped_same past run StepRefused a b same = inr (rejected_same past run a b same)
   stepped_same past run Done a b same = inr (rejected_same past run a b same)
 
-  told_same : (past : List Event) → IsPast s past → (prompt : ℕ) (reply : BookReply) → told s past prompt reply ≡ told (grown s m) past prompt reply
+  pub told_same : (past : List Event) → IsPast s past → (prompt : ℕ) (reply : BookReply) → told s past prompt reply ≡ told (grown s m) past prompt reply
   told_same past run prompt (Lead led ordinal) = refl
   told_same past run prompt (Follow followed) = refl
   told_same past run prompt Cancelled = refl
@@ -394,7 +394,7 @@ module _ (s m : Setting) (more : KnowsMore s m) where
 
   -- THE CALLS AT THE END
 
-  same_carried : (past : List Event) → IsPast s past → (t : Target) → Knows s (carried s past t) × (carried s past t ≡ carried (grown s m) past t)
+  pub same_carried : (past : List Event) → IsPast s past → (t : Target) → Knows s (carried s past t) × (carried s past t ≡ carried (grown s m) past t)
   same_carried [] run t = (tt, refl)
   same_carried (Headed link bytes ∷ past) run t = (known_held s past run.0 t, same_held past run.0 t)
   same_carried (_ ∷ past) run t = same_carried past run.0 t
@@ -411,7 +411,7 @@ module _ (s m : Setting) (more : KnowsMore s m) where
   both_notes : (past : List Event) → IsPast s past → note_for s past Proxy ++ note_for s past Server ≡ note_for (grown s m) past Proxy ++ note_for (grown s m) past Server
   both_notes past run = ap (λ n. n ++ note_for s past Server) (note_for_same past run Proxy) ∙ ap (λ n. note_for (grown s m) past Proxy ++ n) (note_for_same past run Server)
 
-  same_notes : (past : List Event) → IsPast s past → (o : Outcome) → notes s past o ≡ notes (grown s m) past o
+  pub same_notes : (past : List Event) → IsPast s past → (o : Outcome) → notes s past o ≡ notes (grown s m) past o
   same_notes past run (Answered status) = both_notes past run
   same_notes past run (Refused status why) = both_notes past run
   same_notes past run _ = refl
@@ -485,7 +485,7 @@ module _ (s m : Setting) (more : KnowsMore s m) where
       are_same_append (renewals s past o) (renewals (grown s m) past o) (map Some (notes s past o ++ End ∷ [])) (map Some (notes (grown s m) past o ++ End ∷ [])) (renewals_same past run o)
       (subst (λ n. AreSame (map Some (notes s past o ++ End ∷ [])) (map Some (n ++ End ∷ []))) (same_notes past run o) (are_same_refl (map Some (notes s past o ++ End ∷ []))))
 
-  same_made : (past : List Event) → closings_made s past ≡ closings_made (grown s m) past
+  pub same_made : (past : List Event) → closings_made s past ≡ closings_made (grown s m) past
   same_made [] = refl
   same_made (Called call reply ∷ past) = ap (λ b. (if b then 1 else 0) + closings_made s past) (same_closing past call) ∙ ap (λ n. (if is_closing (grown s m) past call then 1 else 0) + n) (same_made past)
     where

@@ -1,5 +1,6 @@
 pub mod Knowing
 pub mod Growing
+pub mod Wishes
 pub mod Lasting
 pub mod Deterministic
 pub mod AtEnd
