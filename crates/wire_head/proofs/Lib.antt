@@ -12,9 +12,10 @@ pub mod NumberLemmas
 pub mod OpenTexts
 pub mod PlaceLemmas
 pub mod ProgressLemmas
-pub mod ReadingStates
 pub mod ReadLemmas
+pub mod ReadingStates
 pub mod RunLemmas
 pub mod StateLemmas
 pub mod StatusLineLemmas
 pub mod UsedLemmas
+pub mod WithinLemmas

@@ -20,6 +20,15 @@ pub fn outcomes()
         → reply method (text ++ more) ended ≡ reply method text false }
 {}
 
+/// A whole reply ends within its text, and one that only the stream's end makes whole has all of it.
+pub fn replies_end()
+    ensures within { (method : Method) (text : List ℕ) (ended : Bool) (r : Reply) (n : ℕ)
+        → reply method text ended ≡ Ok (Some (r, n)) → n ≤ length text }
+    ensures at_end { (method : Method) (text : List ℕ) (r : Reply) (n : ℕ)
+        → reply method text false ≡ Ok None → reply method text true ≡ Ok (Some (r, n))
+        → n ≡ length text }
+{}
+
 /// A head that was written of fit parts reads back, whatever follows it, and no other parts have it.
 pub fn heads_read_back()
     ensures back { (h : ReadHead) (rest : List ℕ) → is_fit h ≡ true

@@ -15,7 +15,7 @@ mod request_head;
 mod response_head;
 
 pub use head_reader::{HeadFault, ReadHead, read_head};
-pub use laws::{carried, heads_read_back, limits, outcomes, worked};
+pub use laws::{carried, heads_read_back, limits, outcomes, replies_end, worked};
 pub use reader::{At, Fed, ReplyReader};
 pub use reply::{Fields, Reply, WireFault, is_challenge};
 pub use request_head::{HeadParts, write_head};
