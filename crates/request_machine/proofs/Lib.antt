@@ -22,3 +22,5 @@ pub mod Fitting
 pub mod Learning
 pub mod Numbers
 pub mod Renewing
+pub mod Rooms
+pub mod Driving

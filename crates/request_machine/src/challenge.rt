@@ -17,6 +17,8 @@ impl Machine {
     ghost use Rattle.request_machine.specs.Changed.{holding};
     ghost use Rattle.request_machine.specs.Chosen.{IsUndecided, IsDecided, IsLast, is_renewal};
     ghost use Rattle.request_machine.specs.Kept.{Ties};
+    ghost use Rattle.request_machine.specs.Turns.{turns_left};
+    ghost use Rattle.request_machine.specs.Linked.{line, way, is_away};
     ghost use Rattle.request_machine.specs.Told.{held_last};
 
     /// Whether nothing is held for the target.
@@ -38,6 +40,9 @@ impl Machine {
         requires reply { IsTrue (can_be reply) }
         requires few { self.old.rounds < 16 }
         ensures past { self.new.past ≡ Event.Replied link reply ∷ self.old.past }
+        ensures kept { line self.new ≡ line self.old }
+        ensures away { IsTrue (is_away (way self.new.stage)) }
+        ensures left { turns_left self.new < 3 }
         ensures ties { (s : Setting) → IsUndecided s self.old reply target
             → Ties s self.old → Ties s self.new }
     {
@@ -57,6 +62,9 @@ impl Machine {
         requires reply { IsTrue (can_be reply) }
         requires few { self.old.rounds < 16 }
         ensures past { self.new.past ≡ Event.Replied link reply ∷ self.old.past }
+        ensures kept { line self.new ≡ line self.old }
+        ensures away { IsTrue (is_away (way self.new.stage)) }
+        ensures left { turns_left self.new < 3 }
         ensures ties { (s : Setting) (h : Holding) (offered : Offer)
             → h.gift ≡ gift → IsDecided s self.old reply target h offered
             → is_renewal offered ≡ false → Ties s self.old → Ties s self.new }
@@ -89,6 +97,9 @@ impl Machine {
         requires last { 16 ≤ self.old.rounds }
         requires few { self.old.rounds < 256 }
         ensures past { self.new.past ≡ Event.Replied link reply ∷ self.old.past }
+        ensures kept { line self.new ≡ line self.old }
+        ensures away { IsTrue (is_away (way self.new.stage)) }
+        ensures left { turns_left self.new < 3 }
         ensures ties { (s : Setting) → IsLast s self.old reply target decides
             → Ties s self.old → Ties s self.new }
     {

@@ -14,6 +14,7 @@ impl Machine {
     ghost use Rattle.std.specs.Prelude.{◌≡◌, ◌∷◌, ◌<◌, IsTrue, Some, None, length};
     ghost use Rattle.trace_rule.specs.Settings.{Setting};
     ghost use Rattle.trace_rule.specs.Traces.{suits};
+    ghost use Rattle.request_machine.specs.Linked.{line, way, goes_on};
     ghost use Rattle.request_machine.specs.Kept.{Ties, IsChosen};
     ghost use Rattle.request_machine.specs.Told.{held_chosen, held_rejected};
     ghost use Rattle.wire_head.specs.declared.reply.Reply.{Reply};
@@ -54,6 +55,8 @@ impl Machine {
         requires stage { self.old.stage ≡ Stage.Select target space terms }
         ensures past { self.new.past
             ≡ Event.Called (Call.Select space terms) (BookReply.Cached gift) ∷ self.old.past }
+        ensures kept { line self.new ≡ line self.old }
+        ensures goes { IsTrue (goes_on (way self.old.stage) (way self.new.stage)) }
         ensures ties { (s : Setting)
             → IsTrue (suits s self.old.past (Call.Select space terms) (BookReply.Cached gift))
             → Ties s self.old → Ties s self.new }
@@ -79,6 +82,8 @@ impl Machine {
         requires stage { self.old.stage ≡ Stage.Select target space terms }
         ensures past { self.new.past
             ≡ Event.Called (Call.Select space terms) (BookReply.Url gift evicted) ∷ self.old.past }
+        ensures kept { line self.new ≡ line self.old }
+        ensures goes { IsTrue (goes_on (way self.old.stage) (way self.new.stage)) }
         ensures ties { (s : Setting)
             → IsTrue (suits s self.old.past (Call.Select space terms) (BookReply.Url gift evicted))
             → Ties s self.old → Ties s self.new }
@@ -97,6 +102,8 @@ impl Machine {
         requires stage { self.old.stage ≡ Stage.Select target space terms }
         ensures past { self.new.past
             ≡ Event.Called (Call.Select space terms) BookReply.Default ∷ self.old.past }
+        ensures kept { line self.new ≡ line self.old }
+        ensures goes { IsTrue (goes_on (way self.old.stage) (way self.new.stage)) }
         ensures ties { (s : Setting)
             → IsTrue (suits s self.old.past (Call.Select space terms) BookReply.Default)
             → Ties s self.old → Ties s self.new }
@@ -115,6 +122,8 @@ impl Machine {
         requires stage { self.old.stage ≡ Stage.Reject target gift }
         ensures past { self.new.past
             ≡ Event.Called (Call.Reject gift.space gift.ordinal) reply ∷ self.old.past }
+        ensures kept { line self.new ≡ line self.old }
+        ensures goes { IsTrue (goes_on (way self.old.stage) (way self.new.stage)) }
         ensures ties { (s : Setting)
             → IsTrue (suits s self.old.past (Call.Reject gift.space gift.ordinal) reply)
             → Ties s self.old → Ties s self.new }

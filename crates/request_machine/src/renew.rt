@@ -15,12 +15,16 @@ impl Machine {
     ghost use Rattle.trace_rule.specs.Settings.{Setting};
     ghost use Rattle.trace_rule.specs.Traces.{suits};
     ghost use Rattle.request_machine.specs.Gives.{AreTermsNamed};
+    ghost use Rattle.request_machine.specs.Linked.{line, way, goes_on};
     ghost use Rattle.request_machine.specs.Kept.{Ties};
 
     /// The terms of the stale challenge have a number.
     #[tactic(auto, using(crate::proofs::Renewing::renewal_named_ties))]
     pub(crate) fn renewal_named(&mut self, target: Target, gift: Gift, terms: u32)
         requires stage { self.old.stage ≡ Stage.NameRenewal target gift }
+        ensures past { self.new.past ≡ self.old.past }
+        ensures kept { line self.new ≡ line self.old }
+        ensures goes { IsTrue (goes_on (way self.old.stage) (way self.new.stage)) }
         ensures ties { (s : Setting) → AreTermsNamed s self.old gift.space terms
             → Ties s self.old → Ties s self.new }
     {
@@ -32,6 +36,8 @@ impl Machine {
         requires room { length self.old.past < 256 }
         requires stage { self.old.stage ≡ Stage.Renew target gift terms }
         ensures past { self.new.past ≡ Event.Called (Call.Renew gift terms) reply ∷ self.old.past }
+        ensures kept { line self.new ≡ line self.old }
+        ensures goes { IsTrue (goes_on (way self.old.stage) (way self.new.stage)) }
         ensures ties { (s : Setting) → IsTrue (suits s self.old.past (Call.Renew gift terms) reply)
             → Ties s self.old → Ties s self.new }
     {
@@ -47,6 +53,9 @@ impl Machine {
     #[tactic(auto, using(crate::proofs::Renewing::last_named_ties))]
     pub(crate) fn last_named(&mut self, target: Target, gift: Gift, closing: Closing, terms: u32)
         requires stage { self.old.stage ≡ Stage.NameLast target gift closing }
+        ensures past { self.new.past ≡ self.old.past }
+        ensures kept { line self.new ≡ line self.old }
+        ensures goes { IsTrue (goes_on (way self.old.stage) (way self.new.stage)) }
         ensures ties { (s : Setting) → AreTermsNamed s self.old gift.space terms
             → Ties s self.old → Ties s self.new }
     {
@@ -54,6 +63,7 @@ impl Machine {
     }
 
     /// The gift was given the terms with the next nonce.
+    #[tactic(auto, using(crate::proofs::Driving::behind_ends))]
     pub(crate) fn renewed_last(
         &mut self,
         target: Target,
@@ -65,6 +75,8 @@ impl Machine {
         requires room { length self.old.past < 256 }
         requires stage { self.old.stage ≡ Stage.RenewLast target gift terms closing }
         ensures past { self.new.past ≡ Event.Called (Call.Renew gift terms) reply ∷ self.old.past }
+        ensures kept { line self.new ≡ line self.old }
+        ensures goes { IsTrue (goes_on (way self.old.stage) (way self.new.stage)) }
         ensures ties { (s : Setting) → IsTrue (suits s self.old.past (Call.Renew gift terms) reply)
             → Ties s self.old → Ties s self.new }
     {
