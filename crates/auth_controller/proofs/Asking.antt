@@ -52,23 +52,23 @@ use Rattle.auth_controller.specs.Serving.{IsServing, is_unspent, pending_at}
 
 -- A CALL IS ASKED FOR
 
-abbrev is_book : Option Need → Bool
+abbrev pub is_book : Option Need → Bool
 is_book (Some (Book c)) = true
 is_book _ = false
 
-no_space : (o : Option ProtectionSpace) → is_book (option_map SpaceNo o) ≡ false
+pub no_space : (o : Option ProtectionSpace) → is_book (option_map SpaceNo o) ≡ false
 no_space None = refl
 no_space (Some space) = refl
 
-no_terms : (n : ℕ) (o : Option Terms) → is_book (option_map (TermsNo n) o) ≡ false
+pub no_terms : (n : ℕ) (o : Option Terms) → is_book (option_map (TermsNo n) o) ≡ false
 no_terms n None = refl
 no_terms n (Some terms) = refl
 
-no_text : (o : Option Login) → is_book (option_map TextNo o) ≡ false
+pub no_text : (o : Option Login) → is_book (option_map TextNo o) ≡ false
 no_text None = refl
 no_text (Some login) = refl
 
-no_piece : (piece : Piece) (o : Option Holding) → is_book (option_map (need_of piece) o) ≡ false
+pub no_piece : (piece : Piece) (o : Option Holding) → is_book (option_map (need_of piece) o) ≡ false
 no_piece piece None = refl
 no_piece OfSpace (Some h) = refl
 no_piece OfIdentity (Some h) = refl
@@ -92,16 +92,16 @@ module _ (roster : Roster) (before told : List Told) (first words : List Drawn) 
     ended : (base : List Event) → IsPast here base → IsTrue (may_cut base) → m.past ≡ with_loss (prompt_open base base) base → call ≡ CallEnd → IsAsked call
 
   -- what each setting says of the stage
-  says : (stage : Stage) → m.stage ≡ stage → (s : Setting) → KnowsBook roster m.seed names (past told) m.number request s → IsStage s m.past stage × IsWantedAt s m stage
+  pub says : (stage : Stage) → m.stage ≡ stage → (s : Setting) → KnowsBook roster m.seed names (past told) m.number request s → IsStage s m.past stage × IsWantedAt s m stage
   says stage is s k =
       let t : Ties s m = serving.known s k in
       (subst (IsStage s m.past) is t.stage, subst (IsWantedAt s m) is (wanted_now s m t))
 
-  now : (stage : Stage) → m.stage ≡ stage → IsStage here m.past stage
+  pub now : (stage : Stage) → m.stage ≡ stage → IsStage here m.past stage
   now stage is = (says stage is here (knows_itself roster m.seed names (past told) m.number request)).0
 
   -- a text that is pending is the last one that was named
-  text_named : (p : Prompt) (text : ℕ) → m.stage ≡ Answering p text → IsTrue (not (text == 0)) → text ≤ length names.texts
+  pub text_named : (p : Prompt) (text : ℕ) → m.stage ≡ Answering p text → IsTrue (not (text == 0)) → text ≤ length names.texts
   text_named p text is some = at (text == 0) refl some (serving.named (subst (λ x. IsTrue (is_unspent x m.past)) (sym is) refl))
     where
       at : (b : Bool) → (text == 0) ≡ b → IsTrue (not b) → HasNamed (names_told before) names m.number m.past (pending_at m.stage) → text ≤ length names.texts

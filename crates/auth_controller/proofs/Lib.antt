@@ -5,3 +5,4 @@ pub mod EventLemmas
 pub mod FirstTrace
 pub mod Retiring
 pub mod Asking
+pub mod Replied

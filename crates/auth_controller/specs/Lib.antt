@@ -2,3 +2,4 @@ pub mod Links
 pub mod Challenges
 pub mod FirstPath
 pub mod Serving
+pub mod Given
