@@ -1,16 +1,17 @@
 -- Each step keeps the rule of the turns.
-use Rattle.std.proofs.Common.{◌≡◌, ℕ, ◌+◌, ◌%◌, ◌^◌, ◌<◌, ◌≤◌, List, [], ◌∷◌, ◌++◌, length, get_or, set, sym, refl, ap, ◌∙◌, subst, ⊎_elim, arith, Option, Some, length-set, get_or-set_same, get_or-set_other}
+use Rattle.std.proofs.Common.{◌≡◌, ℕ, eqb, ◌+◌, ◌%◌, ◌^◌, ◌<◌, ◌≤◌, List, [], ◌∷◌, ◌++◌, length, get_or, set, sym, refl, ap, ◌∙◌, subst, ⊎_elim, arith, Option, Some, length-set, get_or-set_same, get_or-set_other}
 use mathlib.Core.Logic.{dite}
 use mathlib.Core.Option.{none, some, some-injective, some-ne-none}
 use native.Mathlib.Decide.{ℕ_discrete}
+use prog.Atomic.{either}
 use lib.ListN.{get_elem?}
 use lib.Seq.{set-get_or}
 use Rattle.atomic_table.specs.Table.{State, Me, step, Act, keeps, takes, gives, stepped, rest, carried_after, Allows, Splits, Joins, opening}
 use Rattle.turnstile.specs.declared.history.HistoryName.{HistoryName}
-use Rattle.atomic_table.proofs.Lists.{at_set, set_here, set_else, set_again, one_turn}
+use Rattle.atomic_table.proofs.Lists.{at_set, set_here, set_else, set_again, one_turn, exchanged}
 use Rattle.turnstile.specs.Totals.{total, is, between}
 use Rattle.turnstile.specs.Turns as turns
-use Rattle.turnstile.specs.Turns.{turn, waiting, holding, resting, fewer, single, both, gone, Ordered, Took, draws, advances}
+use Rattle.turnstile.specs.Turns.{turn, waiting, holding, resting, fewer, single, both, gone, Ordered, Took, draws, draws_at, advances}
 use Rattle.turnstile.specs.declared.turns.Turn.{Turn}
 use Rattle.turnstile.proofs.Totals.{total-append, total-set, term_le, terms_le, total_le, total_zero, total_alone, each_set, each_snoc, is_here, between_in, between_le, between_next, between_served, between_none}
 
@@ -52,6 +53,18 @@ module _ {A F : Type 0} (fits : HistoryName → Option F → A → Type 0) (P : 
   -- nothing changed
   unmoved : (s : State (Option A) (Turn F)) (id i : ℕ) (v : Turn F) (c : List (ℕ × Option A)) → get_elem? s.views id ≡ some v → Holds s → Holds (stepped s i (get_or s.words i 0) id c v keeps)
   unmoved s id i v c at k = subst (λ (t : List ℕ × List (Turn F)). Holds record { words = t.0; homes = s.homes; views = t.1 }) (λ j. (sym (set-get_or s.words i 0) j, sym (set_again s.views id v at) j)) k
+
+  -- a ticket is drawn where it is the one that was looked for
+  pub draws_at_keep : (slots id : ℕ) (me : Me (Option A) (Turn F)) (old new : ℕ) → new ≡ (old + 1) % 2 ^ 64 → 0 < me.0.parts → me.0.tickets ≡ [] → me.0.holds ≡ 0
+      → Allows Holds slots id me 0 (λ n. either (eqb n old) new n) (draws_at (step slots 0 old new none) me)
+  draws_at_keep slots id me old new above some-part no-ticket idle s k wide at small =
+      let x : ℕ = get_or s.words 0 0 in
+      exchanged x old new (λ y. (w : Turn F) × (a : Act (Option A)) × Rattle.atomic_table.specs.Table.Valid s.homes me.1 a × Holds (stepped s 0 y id me.1 w a) × draws_at (step slots 0 old new none) me x (w, carried_after me.1 a))
+      (λ hit.
+      let d = draws_keep slots id me some-part no-ticket idle s k wide at small in
+      let next : (x + 1) % 2 ^ 64 ≡ new = ap (λ (n : ℕ). (n + 1) % 2 ^ 64) hit ∙ sym above in
+      (d.0, d.1, d.2, subst (λ (n : ℕ). Holds (stepped s 0 n id me.1 d.0 d.1)) next d.3, ((λ _. d.4), λ ne. absurd (ne hit))))
+      (λ miss. (me.0, keeps, tt, unmoved s id 0 me.0 me.1 at k, ((λ e. absurd (miss e)), λ _. refl)))
 
   -- whose ticket is served, nobody has the turn
   free : (s : State (Option A) (Turn F)) (k : Holds s) (id : ℕ) (v : Turn F) → get_elem? s.views id ≡ some v → v.holds ≡ 0 → v.tickets ≡ k.serving ∷ [] → total (λ u. u.holds) s.views ≡ 0

@@ -46,6 +46,10 @@ module _ {F : Type 0} where
     abbrev pub draws : Step (Option A) → Me (Option A) (Turn F) → ℕ → Me (Option A) (Turn F) → Type 0
     draws st m r n = (t : ℕ) × (n ≡ (waiting m.0 t, m.1)) × (r ≡ t % 18446744073709551616)
 
+    -- a ticket is drawn exactly where the number found is the one that was looked for
+    abbrev pub draws_at : Step (Option A) → Me (Option A) (Turn F) → ℕ → Me (Option A) (Turn F) → Type 0
+    draws_at st m r n = (r ≡ st.first → draws st m r n) × (r ≢ st.first → n ≡ m)
+
     -- the turn is over, and the slot that was taken is given back
     abbrev pub advances : Step (Option A) → Me (Option A) (Turn F) → ℕ → Me (Option A) (Turn F) → Type 0
     advances st m r n = n ≡ (resting m.0, rest m.1)

@@ -62,13 +62,13 @@ impl<S: Told> TableRule<Option<Deposit<S>>, Turn<S::Fixed>, Key<S>> for TurnRule
     ghost first = { λ key. turn key.passes [] 0 (Some (S.fixed key.state.value)) (history_of key.passes key.home.value.table_id) };
 }
 
-/// A ticket is drawn.
-pub(crate) struct Draws;
+/// A ticket is drawn where it is the one that was looked for.
+pub(crate) struct DrawsAt;
 
-impl<A, F> Play<Option<A>, Turn<F>> for Draws {
-    ghost use Rattle.turnstile.specs.Turns.{draws};
+impl<A, F> Play<Option<A>, Turn<F>> for DrawsAt {
+    ghost use Rattle.turnstile.specs.Turns.{draws_at};
 
-    ghost then = { draws };
+    ghost then = { draws_at };
 }
 
 /// A look at whose turn it is, which takes the turn where it is one's own.

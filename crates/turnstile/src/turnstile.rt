@@ -1,32 +1,34 @@
 //! The turnstile: `enter` waits for a turn and takes the value out, `leave` puts it back and ends the turn, `close` gives it up.
 //! A turn is one ticket. The value is put back before the next ticket is served, so no two turns have it at once.
-//! A gate stands before the tickets: who holds it waits for its ticket to be served, and all others sleep at the gate.
-ghost use Rattle.std.specs.Prelude.{◌≡◌, ℕ, ◌+◌, ◌<◌, ◌++◌, ◌∷◌, [], All, length, Some, None, vec_len, IfOk, IfErr};
+//! A ticket is drawn only where no other is out, so it is served at once. Who finds another one out
+//! sleeps until a turn ends.
+ghost use Rattle.std.specs.Prelude.{◌≡◌, ℕ, ◌+◌, ◌%◌, ◌<◌, ◌++◌, ◌∷◌, [], All, length, Some, None, vec_len, IfOk, IfErr};
 ghost use mathlib.Core.List.{IsPrefix};
 ghost use Rattle.turnstile.specs.Totals.{Each};
 ghost use Rattle.turnstile.specs.Passes.{IsIn, IsMade, added};
 ghost use Rattle.turnstile.specs.Names.{id_of};
-ghost use Rattle.turnstile.specs.Turns.{resting};
+ghost use Rattle.turnstile.specs.Turns.{resting, waiting};
 
 use crate::history::{HistoryRule, HomeIn, HomeOut, Joins, Looks, News, Past, Publishes};
 use crate::opening::{NotMade, deal, enclose, found};
 use crate::pass::{Inside, Pass};
 use crate::passes::Passes;
 use crate::told::Told;
-use crate::turns::{Advances, Deposit, Draws, Key, Of, Takes, Together, Turn, TurnRule};
+use crate::turns::{Advances, Deposit, DrawsAt, Key, Of, Takes, Together, Turn, TurnRule};
 use atomic_table::{Seat, Table};
 use std::alloc::Global;
 use std::marker::{Brand, Model};
 use std::snapshot::Snapshot;
-use std::sync::{Mutex, Wait};
+use std::sync::Wait;
+use std::sync::atomic::AtomicU64;
+use std::sync::atomic::Ordering::SeqCst;
 
 /// A value that one thread at a time may have, in turns. Threads share it by reference.
 pub struct Turnstile<S: Told> {
     history: Table<(), Past<S::Item>, (), HistoryRule<S>, Global>,
     turns: Table<Option<Deposit<S>>, Turn<S::Fixed>, Key<S>, TurnRule<S>, Global>,
-    // Held from before a ticket is drawn until the turn is had, so that one thread at most loads the word
-    // of the ticket that is served. No contract rests on it.
-    gate: Mutex<()>,
+    // Not 0 where a thread may sleep until a turn ends. No contract rests on it.
+    sleepers: AtomicU64,
 }
 
 impl<S: Told> Model for Turnstile<S> {
@@ -76,7 +78,7 @@ impl<S: Told> Turnstile<S> {
         let turnstile = Turnstile {
             history,
             turns,
-            gate: Mutex::new(()),
+            sleepers: AtomicU64::new(0),
         };
         Ok((turnstile, Passes { list }))
     }
@@ -93,9 +95,7 @@ impl<S: Told> Turnstile<S> {
         ensures number { 0 < pass.number }
     {
         let Pass { mut past, turn } = pass;
-        let gate = self.gate.lock(rt);
         let (turn, deposit) = self.take_turn(rt, turn);
-        drop(gate);
         let Deposit { of: _, state, home } = deposit;
         self.history.shared.join_seat::<HomeIn>(&mut past, home);
         self.history.shared.load::<Looks<S>>(&mut past, 0);
@@ -133,7 +133,7 @@ impl<S: Told> Turnstile<S> {
         let Turnstile {
             history,
             turns,
-            gate: _,
+            sleepers: _,
         } = self;
         let Deposit { of: _, state, home } = reopened(turns, turn);
         history.shared.join_seat::<HomeIn>(&mut past, home);
@@ -141,18 +141,18 @@ impl<S: Told> Turnstile<S> {
         state
     }
 
-    // Draws a ticket, and waits until it is served.
+    // Draws a ticket, and takes the turn once it is served.
     fn take_turn<R: Wait>(
         &self,
         rt: &R,
-        mut turn: Seat<Option<Deposit<S>>, Turn<S::Fixed>>,
+        turn: Seat<Option<Deposit<S>>, Turn<S::Fixed>>,
     ) -> (Seat<Option<Deposit<S>>, Turn<S::Fixed>>, Deposit<S>)
         requires table { turn.table_id ≡ self.now.turns }
         requires rests { (turn.me.1 ≡ []) × (turn.me.0.tickets ≡ []) × (turn.me.0.holds ≡ 0) × (0 < turn.me.0.parts) }
         ensures seat { (result.0.table_id ≡ turn.table_id) × (result.0.me.1 ≡ (0, None) ∷ []) × (result.0.me.0.holds ≡ 1) × (result.0.me.0.parts ≡ turn.me.0.parts) × (result.0.me.0.history ≡ turn.me.0.history) × (result.0.me.0.fixed ≡ turn.me.0.fixed) }
         ensures deposit { (result.1.home.table_id ≡ id_of turn.me.0.history.table) × (result.1.home.me.0.made ≡ turn.me.0.history.passes) × (turn.me.0.fixed ≡ Some (S.fixed result.1.state)) }
     {
-        let ticket = self.turns.shared.fetch_add::<Draws>(&mut turn, 0, 1);
+        let (mut turn, ticket) = self.draw_ticket(rt, turn);
         for _ in rt.forever() {
             let serving = self.turns.shared.load::<Takes<S>>(&mut turn, 1);
             if serving == ticket {
@@ -160,6 +160,45 @@ impl<S: Told> Turnstile<S> {
             }
         }
         unreachable!()
+    }
+
+    // Draws the ticket that is served, once no other is out. It is the next one.
+    fn draw_ticket<R: Wait>(
+        &self,
+        rt: &R,
+        mut turn: Seat<Option<Deposit<S>>, Turn<S::Fixed>>,
+    ) -> (Seat<Option<Deposit<S>>, Turn<S::Fixed>>, u64)
+        requires table { turn.table_id ≡ self.now.turns }
+        requires rests { (turn.me.1 ≡ []) × (turn.me.0.tickets ≡ []) × (turn.me.0.holds ≡ 0) × (0 < turn.me.0.parts) }
+        ensures table { result.0.table_id ≡ turn.table_id }
+        ensures ticket { (t : ℕ) × (result.0.me ≡ (waiting turn.me.0 t, [])) × (result.1 ≡ t % 18446744073709551616) }
+    {
+        for _ in rt.forever() {
+            let served = self.turns.shared.peek(1);
+            if self.turns.shared.peek(0) == served {
+                let next = served.wrapping_add(1);
+                let found = self
+                    .turns
+                    .shared
+                    .compare_exchange::<DrawsAt>(&mut turn, 0, served, next);
+                if found == served {
+                    return (turn, served);
+                }
+            } else {
+                self.sleep(rt, served);
+            }
+        }
+        unreachable!()
+    }
+
+    // Sleeps while this ticket is served. A thread that has slept wakes another one at the end of its
+    // turn, since more may sleep.
+    fn sleep<R: Wait>(&self, rt: &R, served: u64) {
+        self.sleepers.store(1, SeqCst);
+        self.turns
+            .shared
+            .park(rt, 1, (served % 4_294_967_296) as u32);
+        self.sleepers.store(1, SeqCst);
     }
 
     // Empties the slot, which the seat holds.
@@ -201,7 +240,9 @@ impl<S: Told> Turnstile<S> {
             home,
         };
         let turn = self.put_back(turn, deposit);
+        let slept = self.note_awake();
         let turn = self.end_turn(turn);
+        self.wake(slept);
         Pass { past, turn }
     }
 
@@ -221,6 +262,23 @@ impl<S: Told> Turnstile<S> {
         let old = self.turns.shared.exchange(&mut turn, 0, Some(deposit));
         let None = old else { unreachable!() };
         turn
+    }
+
+    // Whether a thread may sleep. From here on none does, unless it says so anew. That is noted before the
+    // turn ends: who says so later sleeps during the next turn, and its thread has to find that.
+    fn note_awake(&self) -> bool {
+        let slept = self.sleepers.load(SeqCst) != 0;
+        if slept {
+            self.sleepers.store(0, SeqCst);
+        }
+        slept
+    }
+
+    // Wakes a thread where one slept, or sleeps now.
+    fn wake(&self, slept: bool) {
+        if slept || self.sleepers.load(SeqCst) != 0 {
+            self.turns.shared.wake_one(1);
+        }
     }
 
     // Serves the next ticket. The slot, which the seat holds, is full again.

@@ -1,10 +1,7 @@
 use Rattle.std.proofs.Common.{rules, ap, ◌∙◌, sym, subst, ◌≡◌, ◌<◌, ◌∷◌, ◌%◌, ℕ, List, get_or, Some}
 use Rattle.turnstile.specs.Names.{id_of}
-use Rattle.turnstile.proofs.TurnRule.{draws_keep, takes_keep}
+use Rattle.turnstile.proofs.TurnRule.{takes_keep}
 use Rattle.turnstile.proofs.turnstile.Turnstile.take_turn.Goals as goal
-
-pub fetch_add-ticket-requires : goal.fetch_add-ticket-requires
-fetch_add-ticket-requires g c = (c.requires.table ∙ sym (ap (λ s. s.turns) c.self.view_is), search rules, draws_keep _ _ _ _ _ _ _ c.requires.rests.3 c.requires.rests.1 c.requires.rests.2)
 
 pub load-serving-requires : goal.load-serving-requires
 load-serving-requires g c = let i = c.loop.invariant in (
