@@ -1,2 +1,3 @@
 pub mod NewLinks
 pub mod PieceLemmas
+pub mod WindowLemmas

@@ -13,6 +13,7 @@ use Rattle.wire_head.specs.Replies.{reply}
 use Rattle.wire_head.proofs.UsedLemmas.{outcome_stays}
 use Rattle.connection_binding.specs.declared.ends.ReadEnd.{ReadEnd}
 use Rattle.connection_binding.specs.declared.ends.ReadEnd.TheVariants.{Whole, Broken}
+use Rattle.connection_binding.specs.LinkStates.{new_link}
 use Rattle.connection_binding.specs.Readings.{Shows, IsNextOf, IsReplyRead}
 
 -- what was read later is all that was read
@@ -28,11 +29,12 @@ some_same : {A : Type 0} (x y : A) → Some x ≡ Some y → x ≡ y
 some_same x y is = cc
 
 pub told_of_link : (link : LinkName) (method : Method) (streams : Option (LinkName → List ℕ)) (old new : List Traffic) (end : ReadEnd)
-    → read_on link old ≡ record { bytes = []; ended = false } → IsReplyRead link method streams (Some old) (Some new) end → Shows method (read_on link new) end
+    → read_on link old ≡ record { bytes = []; ended = false } → IsReplyRead link method streams (Some old) (Some new) end
+    → (left : List ℕ) × Shows (new_link link) method (read_on link new) end left
 told_of_link link method streams old new end unread read =
     let grew : new ≡ old ++ (read.front ++ read.last) = some_same new (old ++ (read.front ++ read.last)) read.grew in
     let whole : read_on link new ≡ read_on link (read.front ++ read.last) = ap (read_on link) grew ∙ read_later link old (read.front ++ read.last) unread in
-    subst (λ s. Shows method s end) (sym whole) read.shows
+    (read.left, subst (λ s. Shows (new_link link) method s end read.left) (sym whole) read.shows)
 
 -- what a front of a stream decides, the whole stream shows
 decided_by : (method : Method) (stream bytes : List ℕ) (ended : Bool) (told : Result (Option (Reply × ℕ)) WireFault)
@@ -67,4 +69,4 @@ pub fault_sent : (link : LinkName) (method : Method) (streams : LinkName → Lis
 fault_sent link method streams old new fault unread read =
     let all = read_on link (read.front ++ read.last) in
     let next = from_front (streams link) (heard_on link old) all unread read.of_stream in
-    decided_by method (streams link) all.bytes all.ended (Err fault) next (fault_decides fault) read.shows
+    decided_by method (streams link) all.bytes all.ended (Err fault) next (fault_decides fault) read.shows.0

@@ -1,5 +1,5 @@
 -- How the calls on a link end, in the words of the dialer that they call.
-use Rattle.std.specs.Prelude.{ℕ, ◌≡◌, Bool}
+use Rattle.std.specs.Prelude.{ℕ, ◌≡◌, Bool, true, false}
 use Rattle.link_trait.specs.declared.links.LinkName.{LinkName}
 use Rattle.link_trait.specs.declared.dialer.Dialed.{Dialed}
 use Rattle.link_trait.specs.declared.dialer.Dialed.TheVariants.{Link as DialerLink, Failed as DialerFailed, NoMemory as DialerNoMemory}
@@ -60,3 +60,11 @@ IsNoReadFault (Broken fault) = Unit {0}
 IsNoReadFault Lost = Unit {0}
 IsNoReadFault (ReadFailed count) = ⊥
 IsNoReadFault ReadNoMemory = Unit {0}
+
+-- the reading gave a reply
+abbrev pub is_whole : ReadEnd → Bool
+is_whole (Whole reply) = true
+is_whole (Broken fault) = false
+is_whole Lost = false
+is_whole (ReadFailed count) = false
+is_whole ReadNoMemory = false

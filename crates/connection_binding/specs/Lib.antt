@@ -1,2 +1,4 @@
 pub mod Ends
+pub mod LinkStates
 pub mod Readings
+pub mod Windows

@@ -1,6 +1,9 @@
 //! How the calls on a link end. Each failure carries the dialer's count of faults, which rose in that
 //! call, so that a report can name the fault.
 
+ghost use Rattle.std.specs.Prelude.{◌≡◌};
+ghost use Rattle.connection_binding.specs.Ends as spec;
+
 use crate::free::FreeLink;
 use wire_head::{Reply, WireFault};
 
@@ -39,4 +42,14 @@ pub enum ReadEnd {
     Failed { count: u64 },
     /// There was no memory.
     NoMemory,
+}
+
+/// Tells whether the reading gave a reply.
+pub(crate) fn is_whole(end: &ReadEnd) -> bool
+    ensures { result ≡ spec.is_whole end.now }
+{
+    match end {
+        ReadEnd::Whole(_) => true,
+        ReadEnd::Broken(_) | ReadEnd::Lost | ReadEnd::Failed { .. } | ReadEnd::NoMemory => false,
+    }
 }

@@ -5,10 +5,14 @@ ghost use Rattle.std.specs.Prelude.{◌≡◌, ◌≢◌, ◌≤◌, ◌++◌, t
 ghost use Rattle.link_trait.specs.Told.{grown};
 ghost use Rattle.link_trait.specs.Links.{has_link, without_link, IsUndialed, dialing, opening, Sends};
 ghost use Rattle.connection_binding.specs.Ends.{dialed_by, wrote_by, IsGiven, IsDialFault, IsSendFault, IsReadFault, IsNoReadFault};
+ghost use Rattle.connection_binding.specs.LinkStates.{new_link};
 ghost use Rattle.connection_binding.specs.Readings.{IsReplyRead};
 
+use crate::bound::BoundLink;
 use crate::ends::{DialEnd, ReadEnd, SendEnd};
 use crate::reading::read_reply;
+use crate::sending::send_on;
+use crate::window::Window;
 use link_trait::{Dialed, Dialer, LinkName, Wrote};
 use spaces::{Method, Origin};
 use std::alloc::Global;
@@ -74,13 +78,28 @@ impl FreeLink {
         ensures fault { IsSendFault D.sticks (D.faults dialer.old) (D.faults dialer.new) result }
         ensures quiet { D.quiet dialer.old → D.quiet dialer.new × (wrote_by result ≢ Wrote.Failed) }
     {
-        match dialer.write(self.name, head) {
-            Wrote::All => SendEnd::All,
-            Wrote::Failed => SendEnd::Failed {
-                count: dialer.faults(),
-            },
-            Wrote::NoMemory => SendEnd::NoMemory,
-        }
+        send_on(dialer, self.name, head)
+    }
+
+    /// Writes a head that carries a token of a context. The link is bound from then on, whatever
+    /// was written; it stays open.
+    pub fn send_token<D: Dialer>(self, dialer: &mut D, head: &[u8]) -> (BoundLink, SendEnd)
+        requires { has_link self (D.opened dialer.old) ≡ true }
+        ensures link { result.0 ≡ new_link self }
+        ensures traffic { Sends
+            (D.traffic dialer.old) (D.traffic dialer.new) (wrote_by result.1) self head.now }
+        ensures dials { D.dials dialer.new ≡ D.dials dialer.old }
+        ensures opened { D.opened dialer.new ≡ D.opened dialer.old }
+        ensures streams { D.streams dialer.new ≡ D.streams dialer.old }
+        ensures later { D.faults dialer.old ≤ D.faults dialer.new }
+        ensures fault { IsSendFault
+            D.sticks (D.faults dialer.old) (D.faults dialer.new) result.1 }
+        ensures quiet { D.quiet dialer.old
+            → D.quiet dialer.new × (wrote_by result.1 ≢ Wrote.Failed) }
+    {
+        let FreeLink { name } = self;
+        let end = send_on(dialer, name, head);
+        (BoundLink::new(name), end)
     }
 
     /// Reads the reply to a request of that method, piece by piece, until the bytes show it or a fault.
@@ -97,7 +116,10 @@ impl FreeLink {
         ensures fault { IsReadFault D.sticks (D.faults dialer.old) (D.faults dialer.new) result }
         ensures quiet { D.quiet dialer.old → D.quiet dialer.new × IsNoReadFault result }
     {
-        read_reply(alloc, dialer, self.name, method)
+        let Ok(mut window) = Window::new(alloc) else {
+            return ReadEnd::NoMemory;
+        };
+        read_reply(alloc, dialer, self.name, &mut window, false, method)
     }
 
     /// Closes the link. This never fails.

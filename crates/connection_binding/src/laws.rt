@@ -11,6 +11,7 @@ ghost use Rattle.wire_head.specs.declared.reply.WireFault.{WireFault};
 ghost use Rattle.wire_head.specs.Replies.{reply};
 ghost use Rattle.connection_binding.specs.declared.ends.ReadEnd.{ReadEnd};
 ghost use Rattle.connection_binding.specs.declared.ends.ReadEnd.TheVariants.{Whole, Broken};
+ghost use Rattle.connection_binding.specs.LinkStates.{new_link};
 ghost use Rattle.connection_binding.specs.Readings.{IsReplyRead, Shows};
 
 /// All that a dialer tells of the link shows the answer; and where it is known what the peer sends,
@@ -18,7 +19,8 @@ ghost use Rattle.connection_binding.specs.Readings.{IsReplyRead, Shows};
 pub fn new_links()
     ensures told { (link : LinkName) (method : Method) (streams : Option (LinkName → List ℕ))
         (old new : List Traffic) (end : ReadEnd) → read_on link old ≡ record { bytes = []; ended = false }
-        → IsReplyRead link method streams (Some old) (Some new) end → Shows method (read_on link new) end }
+        → IsReplyRead link method streams (Some old) (Some new) end
+        → (left : List ℕ) × Shows (new_link link) method (read_on link new) end left }
     ensures reply_sent { (link : LinkName) (method : Method) (streams : LinkName → List ℕ)
         (old : List Traffic) (new : Option (List Traffic)) (r : Reply) → heard_on link old ≡ []
         → IsReplyRead link method (Some streams) (Some old) new (Whole r)

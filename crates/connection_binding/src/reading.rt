@@ -1,30 +1,31 @@
-//! The reading of one reply through a window: what a read gives is fed to the reader of replies at
-//! once, so that no more is read than what decides.
+//! The reading of one reply: what the window keeps is fed to the reader of replies, and then what
+//! each read gives, so that no more is read than what decides. What is behind the reply stays in the
+//! window.
 
-ghost use Rattle.std.specs.Prelude.{◌≡◌, ◌<◌, ◌≤◌, ◌++◌, ℕ, true, false, length, vec_len, IfOk, List};
+ghost use Rattle.std.specs.Prelude.{◌≡◌, ◌≤◌, ◌==◌, ◌&&◌, ◌++◌, [], ℕ, Bool, true, false, length, drop, List, IfSome};
 ghost use Rattle.std.specs.declared.option.Option.{Option};
 ghost use Rattle.spaces.specs.declared.roster.Method.{Method};
+ghost use Rattle.link_trait.specs.declared.links.LinkName.{LinkName};
 ghost use Rattle.link_trait.specs.Links.{has_link};
 ghost use Rattle.link_trait.specs.declared.dialer.Traffic.{Traffic};
 ghost use Rattle.connection_binding.specs.Ends.{IsReadFault, IsNoReadFault};
+ghost use Rattle.connection_binding.specs.LinkStates.{LinkState};
 ghost use Rattle.wire_head.specs.Feeding.{IsFed};
 ghost use Rattle.wire_head.specs.Replies.{reply};
-ghost use Rattle.connection_binding.specs.Readings.{IsReplyRead, IsShown, IsUndecided, IsPieceOf, IsFedAnswer, IsPieceFault, IsNoPieceFault};
+ghost use Rattle.connection_binding.specs.Readings.{IsOver, IsShownAtEnd, IsUndecided, IsPieceOf, IsFedAnswer, piece_of, IsPieceFault, IsNoPieceFault};
 
 use crate::ends::ReadEnd;
+use crate::window::Window;
 use link_trait::{Dialer, Got, LinkName};
 use spaces::Method;
-use std::alloc::{AllocError, Global};
-use wire_head::{At, ReplyReader};
-
-/// How many bytes one read gives at most.
-const WINDOW: usize = 8_192;
+use std::alloc::Global;
+use wire_head::{At, Fed, ReplyReader};
 
 /// Each read gives a byte at least, and a reply is decided by its 65,536 bytes of heads, its 1,048,576
 /// bytes of body and the byte behind them at the latest.
 const MOST_READS: usize = 1_114_113;
 
-/// What one read did to the reading of a reply.
+/// What more bytes did to the reading of a reply.
 #[derive(Debug, Drop)]
 pub(crate) enum Piece {
     /// Nothing is decided yet.
@@ -35,37 +36,70 @@ pub(crate) enum Piece {
     Over(ReadEnd),
 }
 
-/// So many zero bytes.
-fn zeros(alloc: Global, len: usize) -> Result<Vec<u8>, AllocError>
-    ensures { IfOk result (λ window. vec_len window ≡ len) }
-{
-    vec![in alloc; 0u8; len]
-}
-
-/// What the reader answers to one more piece.
-fn fed(reader: &mut ReplyReader, piece: &[u8]) -> Piece
+/// What the reader answers to one more piece, where that is an end of the reading, and how many bytes
+/// of the piece are taken: those of the reply, or all where it shows none.
+fn answered(reader: &mut ReplyReader, piece: &[u8]) -> (Option<ReadEnd>, usize)
     ensures answer { (method : Method) (text : List ℕ) → IsFed reader.old method text
-        → IsFedAnswer (reply method (text ++ piece.now) false) result }
+        → IsFedAnswer (reply method (text ++ piece.now) false) (text ++ piece.now)
+        result.0 (drop result.1 piece.now) }
     ensures fed { (method : Method) (text : List ℕ) → IsFed reader.old method text
-        → result ≡ Piece.More → IsFed reader.new method (text ++ piece.now) }
+        → result.0 ≡ None → IsFed reader.new method (text ++ piece.now) }
+    ensures within { result.1 ≤ length piece.now }
+    ensures quiet { IfSome result.0 IsNoReadFault }
 {
-    match reader.feed(piece).at {
-        At::More => Piece::More,
-        At::Whole(reply) => Piece::Over(ReadEnd::Whole(reply)),
-        At::Fault(fault) => Piece::Over(ReadEnd::Broken(fault)),
-        At::NoMemory => Piece::Over(ReadEnd::NoMemory),
+    let Fed { used, at } = reader.feed(piece);
+    match at {
+        At::More => (None, piece.len()),
+        At::Whole(reply) => (Some(ReadEnd::Whole(reply)), used),
+        At::Fault(fault) => (Some(ReadEnd::Broken(fault)), piece.len()),
+        At::NoMemory => (Some(ReadEnd::NoMemory), piece.len()),
     }
 }
 
+/// Feeds what the window keeps. What stays in it is behind the reply.
+fn fed(reader: &mut ReplyReader, window: &mut Window) -> Option<ReadEnd>
+    ensures answer { (method : Method) (text : List ℕ) → IsFed reader.old method text
+        → IsFedAnswer (reply method (text ++ window.old) false) (text ++ window.old)
+        result window.new }
+    ensures fed { (method : Method) (text : List ℕ) → IsFed reader.old method text
+        → result ≡ None → IsFed reader.new method (text ++ window.old) }
+    ensures few { length window.new ≤ 8192 }
+    ensures quiet { IfSome result IsNoReadFault }
+{
+    let (end, taken) = answered(reader, window.bytes());
+    window.take(taken);
+    end
+}
+
+/// Whether the link is lost, should it end here: it gave a reply before, and no byte since.
+fn is_gone(window: &Window, has_replied: bool) -> bool
+    ensures { result ≡ (length window.now == 0) && has_replied }
+{
+    window.bytes().is_empty() && has_replied
+}
+
 /// What all bytes show, of which no more follow.
-fn shown_at_end(reader: ReplyReader) -> ReadEnd
+fn shown_at_end(reader: ReplyReader, gone: bool) -> ReadEnd
     ensures shown { (method : Method) (text : List ℕ) → IsFed reader method text
-        → IsShown (reply method text true) result }
+        → IsShownAtEnd gone (reply method text true) result }
     ensures quiet { IsNoReadFault result }
 {
+    if gone {
+        return ReadEnd::Lost;
+    }
     match reader.end() {
         Ok(reply) => ReadEnd::Whole(reply),
         Err(fault) => ReadEnd::Broken(fault),
+    }
+}
+
+/// A piece that was fed, by the end that it showed.
+fn piece_of(end: Option<ReadEnd>) -> Piece
+    ensures { result ≡ piece_of end }
+{
+    match end {
+        None => Piece::More,
+        Some(end) => Piece::Over(end),
     }
 }
 
@@ -73,25 +107,28 @@ fn shown_at_end(reader: ReplyReader) -> ReadEnd
 fn read_piece<D: Dialer>(
     dialer: &mut D,
     link: LinkName,
-    window: &mut [u8],
+    window: &mut Window,
     reader: &mut ReplyReader,
 ) -> Piece
     requires open { has_link link (D.opened dialer.old) ≡ true }
-    requires room { 0 < length window.old }
-    ensures piece { (method : Method) (told : Option (List Traffic)) (least : ℕ)
-        → IsUndecided link method (D.streams dialer.old) told (D.traffic dialer.old) least reader.old
-        → IsPieceOf link method
-        (D.streams dialer.old) told (D.traffic dialer.new) least reader.new result }
+    requires empty { window.old ≡ [] }
+    ensures piece { (kept : List ℕ) (has_replied : Bool) (method : Method)
+        (told : Option (List Traffic)) (least : ℕ) (gone : Bool)
+        → (let state : LinkState = record { name = link; kept = kept; has_replied = has_replied }
+        in IsUndecided state method
+        (D.streams dialer.old) told (D.traffic dialer.old) least gone reader.old
+        → IsPieceOf state method (D.streams dialer.old) told (D.traffic dialer.new)
+        least gone reader.new result window.new) }
     ensures dials { D.dials dialer.new ≡ D.dials dialer.old }
     ensures opened { D.opened dialer.new ≡ D.opened dialer.old }
     ensures streams { D.streams dialer.new ≡ D.streams dialer.old }
     ensures later { D.faults dialer.old ≤ D.faults dialer.new }
     ensures fault { IsPieceFault D.sticks (D.faults dialer.old) (D.faults dialer.new) result }
     ensures quiet { D.quiet dialer.old → D.quiet dialer.new × IsNoPieceFault result }
-    ensures room { length window.new ≡ length window.old }
+    ensures few { length window.new ≤ 8192 }
 {
-    match dialer.read(link, window) {
-        Got::Bytes(count) => fed(reader, &window[..count]),
+    match window.fill(dialer, link) {
+        Got::Bytes(_) => piece_of(fed(reader, window)),
         Got::End => Piece::AtEnd,
         Got::Failed => Piece::Over(ReadEnd::Failed {
             count: dialer.faults(),
@@ -100,16 +137,21 @@ fn read_piece<D: Dialer>(
     }
 }
 
-/// Reads the reply to a request of that method from an open link.
+/// Reads the reply to a request of that method from an open link, of which the window keeps what
+/// was read behind its last reply, where it gave one.
 pub(crate) fn read_reply<D: Dialer>(
     alloc: Global,
     dialer: &mut D,
     link: LinkName,
+    window: &mut Window,
+    has_replied: bool,
     method: Method,
 ) -> ReadEnd
     requires { has_link link (D.opened dialer.old) ≡ true }
-    ensures reply { IsReplyRead link method
-        (D.streams dialer.old) (D.traffic dialer.old) (D.traffic dialer.new) result }
+    ensures reply { IsOver (record { name = link; kept = window.old; has_replied = has_replied })
+        method (D.streams dialer.old) (D.traffic dialer.old) (D.traffic dialer.new)
+        result window.new }
+    ensures few { length window.new ≤ 8192 }
     ensures dials { D.dials dialer.new ≡ D.dials dialer.old }
     ensures opened { D.opened dialer.new ≡ D.opened dialer.old }
     ensures streams { D.streams dialer.new ≡ D.streams dialer.old }
@@ -117,16 +159,19 @@ pub(crate) fn read_reply<D: Dialer>(
     ensures fault { IsReadFault D.sticks (D.faults dialer.old) (D.faults dialer.new) result }
     ensures quiet { D.quiet dialer.old → D.quiet dialer.new × IsNoReadFault result }
 {
-    let Ok(mut window) = zeros(alloc, WINDOW) else {
-        return ReadEnd::NoMemory;
-    };
+    let mut gone = is_gone(window, has_replied);
     let Ok(mut reader) = ReplyReader::new(alloc, method) else {
+        window.clear();
         return ReadEnd::NoMemory;
     };
+    match fed(&mut reader, window) {
+        Some(end) => return end,
+        None => {}
+    }
     for read in 0..MOST_READS {
-        match read_piece(dialer, link, window.as_mut_slice(), &mut reader) {
-            Piece::More => {}
-            Piece::AtEnd => return shown_at_end(reader),
+        match read_piece(dialer, link, window, &mut reader) {
+            Piece::More => gone = false,
+            Piece::AtEnd => return shown_at_end(reader, gone),
             Piece::Over(end) => return end,
         }
     }
