@@ -14,7 +14,8 @@ use Rattle.auth_runs.specs.declared.event.Event.{Event}
 use Rattle.trace_rule.specs.Holding.{Held, held}
 use Rattle.trace_rule.specs.Settings.{Setting, scheme_is, setting_of}
 use Rattle.trace_rule.specs.Traces.{IsPast}
-use Rattle.trace_rule.proofs.Drops.{negotiating, none_negotiating, spaces_numbered}
+use Rattle.trace_rule.proofs.Drops.{spaces_numbered}
+use Rattle.trace_rule.proofs.Gains.{negotiating, none_negotiating}
 use Rattle.trace_rule.proofs.Knowing.{IsKnown, Knows, known_held, one_of}
 use Rattle.trace_laws.proofs.HeldTerms.{IsFit, calls_fit, fit_held, own_terms}
 use Rattle.serving_laws.specs.Alone.{IsAlone}

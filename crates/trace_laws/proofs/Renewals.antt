@@ -1,5 +1,5 @@
 -- With the renewals at the end a request gives terms no more often than it may choose.
-use Rattle.std.proofs.Common.{◌≡◌, ◌⊎◌, inl, inr, ℕ, zero, suc, ◌+◌, ◌≤◌, ◌<◌, Bool, true, false, not, ◌&&◌, List, [], ◌∷◌, ◌++◌, length, length-append, drop, Option, Some, None, option_map, unwrap_or, refl, sym, ap, ◌∙◌, subst, arith, if◌then◌else◌}
+use Rattle.std.proofs.Common.{◌≡◌, ◌⊎◌, inl, inr, ℕ, zero, suc, ◌+◌, ◌≤◌, ◌<◌, Bool, true, false, not, ◌&&◌, ◌||◌, ◌==◌, IsTrue, List, [], ◌∷◌, ◌++◌, length, length-append, drop, Option, Some, None, option_map, unwrap_or, refl, sym, ap, ◌∙◌, subst, arith, if◌then◌else◌}
 use Rattle.std.specs.Prelude.{map, nat_le}
 use Rattle.std.specs.List.{list_any}
 use Rattle.std.proofs.lemmas.Bool.{false≢true}
@@ -28,11 +28,13 @@ use Rattle.trace_rule.proofs.AtEnd.{notes_each}
 use Rattle.trace_rule.proofs.Bounds.{IsDone, still}
 use Rattle.trace_rule.proofs.Counts.{drops}
 use Rattle.trace_rule.proofs.Deterministic.{nothing_after}
-use Rattle.trace_rule.proofs.Drops.{drops_bound}
+use Rattle.trace_rule.proofs.Drops.{drops_bound, drops_plain}
+use Rattle.trace_rule.proofs.Gains.{is_plain}
 use Rattle.trace_rule.proofs.Reasons.{IsClosingStep, closes_at, closing_step, is_at_end, reason}
 use Rattle.trace_rule.proofs.Reasons.IsClosingStep.{by_call, by_outcome}
-use Rattle.trace_laws.specs.Lengths.{choices, terms_given}
+use Rattle.trace_laws.specs.Lengths.{choices, names_terms, terms_given, terms_named}
 use Rattle.trace_laws.proofs.Choices.{balanced, none_dropped, within}
+use Rattle.trace_laws.proofs.Counted.{count_of, one_if}
 
 -- FEW RENEWALS
 
@@ -166,3 +168,42 @@ few_terms s means past run = at (list_any is_no_mechanism past) refl
     at : (b : Bool) → list_any is_no_mechanism past ≡ b → terms_given past ≤ (if b then 17 else 16)
     at true k = omega (arith, few_terms_in s past run, drops_bound s means past run)
     at false k = omega (arith, few_terms_in s past run, none_dropped s past k)
+
+-- CHOICES WITHOUT TERMS
+
+abbrev plains : List Event → ℕ
+plains past = count_of is_plain past
+
+any_one : (past : List Event) → IsTrue (list_any is_plain past) → 1 ≤ plains past
+any_one [] plain = absurd (false≢true plain)
+any_one (event ∷ past) plain = at (is_plain event) plain (any_one past)
+  where
+    at : (b : Bool) → IsTrue (b || list_any is_plain past) → (IsTrue (list_any is_plain past) → 1 ≤ plains past) → 1 ≤ one_if b + plains past
+    at true p later = omega arith
+    at false p later = let before = later p in omega (arith, before)
+
+-- a choice has terms or is plain
+either_one : (b : Bool) (x y z : ℕ) → x + y ≤ z → ((if not b then 1 else 0) + x) + (one_if b + y) ≤ 1 + z
+either_one true x y z h = omega (arith, h)
+either_one false x y z h = omega (arith, h)
+
+named_or_plain : (past : List Event) → terms_named past + plains past ≤ terms_given past
+named_or_plain [] = omega arith
+named_or_plain (Called call reply ∷ past) = at call (named_or_plain past)
+  where
+    renewed : (b : Bool) → terms_named past + plains past ≤ terms_given past → ((if not b then 1 else 0) + terms_named past) + plains past ≤ 1 + terms_given past
+    renewed true h = omega (arith, h)
+    renewed false h = omega (arith, h)
+
+    at : (c : Call) → terms_named past + plains past ≤ terms_given past → terms_named (Called c reply ∷ past) + plains (Called c reply ∷ past) ≤ terms_given (Called c reply ∷ past)
+    at (Select space terms) h = either_one (terms == 0) (terms_named past) (plains past) (terms_given past) h
+    at (Renew gift terms) h = (let le = renewed (terms == 0) h in omega (arith, le))
+    at _ h = omega (arith, h)
+named_or_plain (_ ∷ past) = let h = named_or_plain past in omega (arith, h)
+
+pub few_named : (s : Setting) → IsNumbered s → (past : List Event) → IsPast s past → terms_named past ≤ 16
+few_named s means past run = at (drops_plain s means past run)
+  where
+    at : (drops s past ≡ 0) ⊎ IsTrue (list_any is_plain past) → terms_named past ≤ 16
+    at (inl none) = omega (arith, few_terms_in s past run, named_or_plain past, none)
+    at (inr plain) = omega (arith, few_terms_in s past run, named_or_plain past, any_one past plain, drops_bound s means past run)

@@ -21,7 +21,7 @@ use Rattle.trace_rule.specs.Traces.{IsPast}
 use Rattle.trace_rule.proofs.Counts.{losts}
 use Rattle.trace_rule.proofs.Stages.{fits_of}
 use Rattle.trace_rule.proofs.Stepping.{IsStepFor, step_for}
-use Rattle.trace_rule.proofs.Drops.{negotiating, one_target}
+use Rattle.trace_rule.proofs.Gains.{negotiating, one_target}
 use Rattle.trace_laws.proofs.Counted.{one_if, few_if, count_of, is_other_call, is_step, finals}
 
 -- what is held has no context

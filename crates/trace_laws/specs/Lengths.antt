@@ -1,5 +1,5 @@
 -- How many events a request has.
-use Rattle.std.specs.Prelude.{ℕ, ◌+◌, ◌≤◌, Bool, true, false, not, if◌then◌else◌, List, [], ◌∷◌, length}
+use Rattle.std.specs.Prelude.{ℕ, ◌+◌, ◌≤◌, ◌==◌, Bool, true, false, not, if◌then◌else◌, List, [], ◌∷◌, length}
 use Rattle.std.specs.List.{list_any}
 use Rattle.auth_events.specs.declared.journal.Call.{Call}
 use Rattle.auth_events.specs.declared.journal.Call.TheVariants.{Renew, Select}
@@ -50,8 +50,18 @@ terms_given [] = 0
 terms_given (Called call reply ∷ past) = (if gives_terms call then 1 else 0) + terms_given past
 terms_given (event ∷ past) = terms_given past
 
--- with the renewals at the end they are no more
+-- the call names terms: a choice that has some, or a renewal; an answer has those of the choice that led its prompt
+abbrev pub names_terms : Call → Bool
+names_terms (Select space terms) = not (terms == 0)
+names_terms (Renew gift terms) = not (terms == 0)
+names_terms call = false
+
+-- how many of them were made
+abbrev pub terms_named : List Event → ℕ
+terms_named [] = 0
+terms_named (Called call reply ∷ past) = (if names_terms call then 1 else 0) + terms_named past
+terms_named (event ∷ past) = terms_named past
+
+-- with the renewals at the end a request names terms at most 16 times, and so at most 16 nonces
 abbrev pub TermsAreFew : Type 0
-TermsAreFew =
-    (s : Setting) → IsNumbered s → (past : List Event) → IsPast s past
-    → terms_given past ≤ (if list_any is_no_mechanism past then 17 else 16)
+TermsAreFew = (s : Setting) → IsNumbered s → (past : List Event) → IsPast s past → terms_named past ≤ 16

@@ -19,7 +19,9 @@ pub fn choices_are_few()
     ensures { ChoicesAreFew }
 {}
 
-/// With the renewals at its end a request gives terms no more often than that.
+/// With the renewals at its end a request names terms at most 16 times, whatever its provider has:
+/// where it lacked a mechanism, the identity that it was for was chosen without terms. So a request
+/// names at most 16 nonces.
 pub fn terms_are_few()
     ensures { TermsAreFew }
 {}

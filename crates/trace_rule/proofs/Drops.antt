@@ -1,296 +1,60 @@
 -- At most one context is given up before it began, since its provider has no mechanism.
-use Rattle.std.proofs.Common.{◌≡◌, ◌⊎◌, inl, inr, ℕ, ◌+◌, ◌≤◌, Bool, true, false, not, ◌&&◌, ◌||◌, ◌==◌, IsTrue, List, [], ◌∷◌, length, Option, Some, None, is_some, is_none, option_and_then, option_map, unwrap_or, refl, sym, ap, ◌∙◌, subst, arith, if◌then◌else◌}
-use Rattle.std.specs.Prelude.{find}
+use Rattle.std.proofs.Common.{◌≡◌, ◌⊎◌, inl, inr, ℕ, ◌+◌, ◌≤◌, Bool, true, false, ◌&&◌, IsTrue, List, [], ◌∷◌, length, Some, None, is_some, is_none, option_and_then, refl, sym, ap, ◌∙◌, subst, arith, if◌then◌else◌}
 use Rattle.std.specs.List.{list_any}
-use Rattle.challenge_tokens.specs.declared.challenge.Challenge.{Challenge}
-use Rattle.spaces.specs.declared.site.Site.{Site}
-use Rattle.std.proofs.lemmas.Bool.{false≢true, eqb-true, eq-eqb}
+use Rattle.std.proofs.lemmas.Bool.{false≢true}
 use Rattle.std.proofs.lemmas.List.{length-map}
 use Rattle.spaces.specs.declared.site.Target.{Target}
 use Rattle.spaces.specs.declared.site.Target.TheVariants.{Server, Proxy, Socks}
-use Rattle.spaces.specs.declared.space.Scheme.{Scheme}
-use Rattle.spaces.specs.declared.space.Scheme.TheVariants.{Basic, Digest, Negotiate, Password}
-use Rattle.spaces.specs.ProtectionSpaces.{ProtectionSpace}
-use Rattle.spaces.specs.Sites.{site, same_scheme, same_target, same_space}
+use Rattle.spaces.specs.declared.space.Scheme.TheVariants.{Negotiate}
+use Rattle.spaces.specs.Sites.{same_target}
 use Rattle.spaces.specs.declared.roster.Request.{Request}
 use Rattle.spaces.specs.declared.roster.Roster.{Roster}
 use Rattle.auth_events.specs.Tables.{Tables}
 use Rattle.auth_events.proofs.Naming.{named_space}
-use Rattle.auth_events.specs.declared.journal.Gift.{Gift}
-use Rattle.auth_events.specs.declared.journal.Call.{Call}
-use Rattle.auth_events.specs.declared.journal.Call.TheVariants.{Begin, Preempt, Select, Reject, Renew, Answer, Lose, Take}
-use Rattle.auth_events.specs.declared.journal.BookReply.{BookReply}
-use Rattle.auth_events.specs.declared.journal.BookReply.TheVariants.{Ready, Url, Cached, Default, Given, Gave, Cancelled, Lost, Lead, Follow}
 use Rattle.auth_events.specs.declared.journal.Entry.{Entry}
 use Rattle.auth_events.specs.Book.{own}
-use Rattle.auth_events.specs.Pages.{fits}
-use Rattle.wire_head.specs.declared.reply.Reply.{Reply}
-use Rattle.link_trait.specs.declared.steps.StepSeen.{StepSeen}
-use Rattle.link_trait.specs.declared.steps.StepSeen.TheVariants.{Token, Done, Refused as StepRefused, NoMechanism, Failed as StepFailed, NoMemory as StepNoMemory}
+use Rattle.link_trait.specs.declared.steps.StepSeen.TheVariants.{NoMechanism}
 use Rattle.auth_runs.specs.declared.event.Event.{Event}
-use Rattle.auth_runs.specs.declared.event.Event.TheVariants.{Called, Drew, Headed, Replied, LinkLost, AskedFor, Stepped}
-use Rattle.trace_rule.specs.Settings.{Setting, first_target, is_proxied, scheme_is, target_is, is_by_path}
-use Rattle.negotiate_handler.specs.Tokens.{token_in}
-use Rattle.trace_rule.specs.Challenges.{Offer, challenges_target, supported, space_at, negotiate_challenge}
-use Rattle.trace_rule.specs.Holding.{Held, Decision, held, held_called, held_ready, held_selected, held_prompted, held_drew, held_stepped, held_headed, held_replied, held_lost, gift_held, deciding, terms_followed, is_no_mechanism}
-use Rattle.trace_rule.specs.Holding.Decision.{Negotiating, Offering}
+use Rattle.auth_runs.specs.declared.event.Event.TheVariants.{Stepped}
+use Rattle.trace_rule.specs.Settings.{Setting, scheme_is}
+use Rattle.trace_rule.specs.Challenges.{challenges_target}
+use Rattle.trace_rule.specs.Holding.{Held, held, held_stepped, held_replied, is_no_mechanism}
 use Rattle.trace_rule.specs.Moves.{Asking}
 use Rattle.trace_rule.specs.Moves.Asking.{Start, GoOn}
 use Rattle.trace_rule.proofs.Counts.{drops}
 use Rattle.trace_rule.specs.Settings.{IsNumbered}
 use Rattle.trace_rule.specs.Serving.{setting_in}
 use Rattle.trace_rule.specs.Entries.{AreEntries, calls, made_in}
-use Rattle.trace_rule.specs.Traces.{IsPast, agrees, may_hold, ready_agrees, choice_agrees, answer_agrees, take_agrees, space_prompted}
-use Rattle.trace_rule.proofs.Knowing.{both_of, agrees_of, may_hold_known}
-use Rattle.trace_rule.proofs.Reasons.{Reason, reason, MadeBy, made_by}
-use Rattle.trace_rule.proofs.Reasons.Reason.{begins, preempts, preempts_server, selects, is_rejected, is_renewed, cancels, loses, takes}
-use Rattle.trace_rule.proofs.Reasons.MadeBy.{wanted, answers, at_end}
-use Rattle.trace_rule.proofs.EndCalls.{IsFrom, made_from}
-use Rattle.trace_rule.proofs.Stages.{fits_of}
-use Rattle.trace_rule.proofs.Allowed.{not_that}
-use Rattle.trace_rule.proofs.Negotiating.{negotiate_choice, chosen_from, IsAskedBehind, prompted_from, IsFollowBehind, taken_from}
+use Rattle.trace_rule.specs.Traces.{IsPast}
+use Rattle.trace_rule.proofs.Gains.{IsGained, gained, is_plain, negotiating, negotiating_decides, none_negotiating, one_target, plain_chosen, stepped_before}
 use Rattle.trace_rule.proofs.Stepping.{IsStepFor, step_for}
 use Rattle.trace_rule.proofs.Bounds.{few_calls}
-
--- what is held is a Negotiate identity
-abbrev pub negotiating : Setting → Option Held → Bool
-negotiating s o = unwrap_or (option_map (λ (h : Held). scheme_is s h.gift.space Negotiate) o) false
-
--- SCHEMES
-
-scheme_clash : (s : Setting) (space : ℕ) → IsTrue (scheme_is s space Negotiate) → IsTrue (is_by_path s space) → ⊥
-scheme_clash s space n p = at (s.space_of space) n p
-  where
-    by : (scheme : Scheme) → IsTrue (same_scheme scheme Negotiate) → IsTrue (same_scheme scheme Basic || same_scheme scheme Digest) → ⊥
-    by Negotiate n p = false≢true p
-    by Basic n p = false≢true n
-    by Digest n p = false≢true n
-    by Password n p = false≢true n
-
-    at : (o : Option ProtectionSpace) → IsTrue (unwrap_or (option_map (λ (named : ProtectionSpace). same_scheme named.scheme Negotiate) o) false)
-        → IsTrue (unwrap_or (option_map (λ (named : ProtectionSpace). same_scheme named.scheme Basic) o) false || unwrap_or (option_map (λ (named : ProtectionSpace). same_scheme named.scheme Digest) o) false) → ⊥
-    at None n p = false≢true n
-    at (Some named) n p = by named.scheme n p
-
-digest_clash : (s : Setting) (space : ℕ) → IsTrue (scheme_is s space Negotiate) → IsTrue (scheme_is s space Digest) → ⊥
-digest_clash s space n d = scheme_clash s space n (at (scheme_is s space Basic) d)
-  where
-    at : (b : Bool) → IsTrue (scheme_is s space Digest) → IsTrue (b || scheme_is s space Digest)
-    at true d = refl
-    at false d = d
-
--- what is renewed is no Negotiate identity
-
-abbrev is_renew : Call → Bool
-is_renew (Renew gift terms) = true
-is_renew _ = false
-
-abbrev gift_in : Call → Gift
-gift_in (Renew gift terms) = gift
-gift_in _ = record { space = 0; ordinal = 0 }
-
-offering_clash : (s : Setting) (reply : Reply) (t : Target) (h : Held) (offered : Offer) → deciding s reply t h ≡ Some (Offering offered) → IsTrue (scheme_is s h.gift.space Negotiate) → ⊥
-offering_clash s reply t h offered d n = at (scheme_is s h.gift.space Negotiate) n d
-  where
-    is_offering : Option Decision → Bool
-    is_offering (Some (Offering o)) = true
-    is_offering _ = false
-
-    none : (o : Option Challenge) → is_offering (option_map (λ challenge. Negotiating (token_in challenge.body)) o) ≡ false
-    none None = refl
-    none (Some c) = refl
-
-    at : (b : Bool) → IsTrue b
-        → (if b then option_map (λ challenge. Negotiating (token_in challenge.body)) (negotiate_challenge reply)
-        else option_and_then (λ place. option_and_then (λ named. option_map Offering (find (λ offered. same_space (space_at place offered) named) (supported false reply))) (s.space_of h.gift.space)) (site s.request t)) ≡ Some (Offering offered) → ⊥
-    at true n e = false≢true (sym (none (negotiate_challenge reply)) ∙ ap is_offering e)
-    at false n e = false≢true n
-
--- a token of the peer decides on a Negotiate identity alone
-negotiating_decides : (s : Setting) (reply : Reply) (t : Target) (h : Held) (peer : Option (List ℕ)) → deciding s reply t h ≡ Some (Negotiating peer) → IsTrue (scheme_is s h.gift.space Negotiate)
-negotiating_decides s reply t h peer d = at (scheme_is s h.gift.space Negotiate) refl
-  where
-    is_negotiating : Option Decision → Bool
-    is_negotiating (Some (Negotiating o)) = true
-    is_negotiating _ = false
-
-    offers : (o : Option Offer) → is_negotiating (option_map Offering o) ≡ false
-    offers None = refl
-    offers (Some x) = refl
-
-    inner : (o : Option ProtectionSpace) (place : Site) → is_negotiating (option_and_then (λ named. option_map Offering (find (λ offered. same_space (space_at place offered) named) (supported false reply))) o) ≡ false
-    inner None place = refl
-    inner (Some named) place = offers (find (λ offered. same_space (space_at place offered) named) (supported false reply))
-
-    outer : (o : Option Site) → is_negotiating (option_and_then (λ place. option_and_then (λ named. option_map Offering (find (λ offered. same_space (space_at place offered) named) (supported false reply))) (s.space_of h.gift.space)) o) ≡ false
-    outer None = refl
-    outer (Some place) = inner (s.space_of h.gift.space) place
-
-    at : (b : Bool) → scheme_is s h.gift.space Negotiate ≡ b → scheme_is s h.gift.space Negotiate ≡ true
-    at true e = e
-    at false e =
-        absurd
-        (false≢true
-        (sym (outer (site s.request t))
-        ∙ (ap (λ b. is_negotiating (if b then option_map (λ challenge. Negotiating (token_in challenge.body)) (negotiate_challenge reply) else option_and_then (λ place. option_and_then (λ named. option_map Offering (find (λ offered. same_space (space_at place offered) named) (supported false reply))) (s.space_of h.gift.space)) (site s.request t))) (sym e)
-        ∙ ap is_negotiating d)))
-
-renewed_plain : (s : Setting) (past : List Event) (gift : Gift) (terms : ℕ) (reply : BookReply) → IsPast s (Called (Renew gift terms) reply ∷ past) → IsTrue (scheme_is s gift.space Negotiate) → ⊥
-renewed_plain s past gift terms reply run n = at (made_by s past (Renew gift terms) reply run.1)
-  where
-    by : Reason s past (Renew gift terms) → ⊥
-    by (is_renewed link r before t h offered ts number p k d o m e behind) = offering_clash s r t h offered d (subst (λ g. IsTrue (scheme_is s g.space Negotiate)) (ap gift_in e) n)
-    by (begins p e) = not_that is_renew (Renew gift terms) Begin refl refl e
-    by (preempts r before p e) = not_that is_renew (Renew gift terms) _ refl refl e
-    by (preempts_server r before p e) = not_that is_renew (Renew gift terms) _ refl refl e
-    by (selects sp ts e c k) = not_that is_renew (Renew gift terms) (Select sp ts) refl refl e
-    by (is_rejected event before t h p k e behind) = not_that is_renew (Renew gift terms) (Reject h.gift.space h.gift.ordinal) refl refl e
-    by (cancels p before k e) = not_that is_renew (Renew gift terms) _ refl refl e
-    by (loses p seen loss before k e) = not_that is_renew (Renew gift terms) (Lose p loss) refl refl e
-    by (takes made p before k e) = not_that is_renew (Renew gift terms) (Take p) refl refl e
-
-    from : IsFrom s past (Renew gift terms) → ⊥
-    from (t, h, ts, c, same, found, digest) = digest_clash s h.gift.space (subst (λ g. IsTrue (scheme_is s g.space Negotiate)) same n) digest
-
-    at : MadeBy s past (Renew gift terms) → ⊥
-    at (wanted m) = by (reason s past run.0 (Renew gift terms) m)
-    at (answers p x t e m) = not_that is_renew (Renew gift terms) (Answer p x t) refl refl e
-    at (at_end o m k) = from (made_from s past o (Renew gift terms) reply m run.1)
-
--- WHAT IS GAINED
-
--- what is a Negotiate identity was one before, or is chosen now
-abbrev pub IsGained : Setting → List Event → Target → Type 0
-IsGained s past t = IsTrue (negotiating s (held s past t)) ⊎ (list_any is_no_mechanism past ≡ false) × (t ≡ first_target s) × IsTrue s.has_negotiate
-
--- by whether the new one is held
-gained_if : {P : Type 0} (s : Setting) (b : Bool) (x y : Option Held) → (IsTrue b → IsTrue (negotiating s x) → P) → (IsTrue (negotiating s y) → P) → IsTrue (negotiating s (if b then x else y)) → P
-gained_if s true x y f g n = f refl n
-gained_if s false x y f g n = g n
-
-prompt_space : (q space terms o : ℕ) (b : List Event) → space_prompted (Called (Select space terms) (Lead q o) ∷ b) q ≡ space
-prompt_space q space terms o b = ap (λ x. unwrap_or (if x then Some space else None) (space_prompted b q)) (eq-eqb q q refl)
-
-followed_space : (q space terms : ℕ) (b : List Event) → space_prompted (Called (Select space terms) (Follow q) ∷ b) q ≡ space
-followed_space q space terms b = ap (λ x. unwrap_or (if x then Some space else None) (space_prompted b q)) (eq-eqb q q refl)
+use Rattle.trace_rule.proofs.Holdings.{or_true}
 
 module _ (s : Setting) (means : IsNumbered s) where
-  gained_ready : (past : List Event) (t target : Target) (reply : BookReply) → IsTrue (ready_agrees s target reply) → IsTrue (negotiating s (held_ready reply (held s past t))) → IsGained s past t
-  gained_ready past t target (Ready gift terms epoch) a n =
-      let both = both_of (target_is s gift.space target && is_by_path s gift.space) (may_hold s gift gift.space terms) a in
-      absurd (scheme_clash s gift.space n (both_of (target_is s gift.space target) (is_by_path s gift.space) both.0).1)
-  gained_ready past t target _ a n = inl n
-
-  -- a gift of a space that was chosen
-  gained_gift : (b : List Event) (space terms : ℕ) (reply : BookReply) (gift : Gift) (t : Target) → IsPast s (Called (Select space terms) reply ∷ b) → gift.space ≡ space → IsTrue (scheme_is s gift.space Negotiate) → IsTrue (target_is s gift.space t)
-      → (list_any is_no_mechanism b ≡ false) × (t ≡ first_target s) × IsTrue s.has_negotiate
-  gained_gift b space terms reply gift t run same n target =
-      negotiate_choice s means b space terms (chosen_from s b space terms reply run) (subst (λ x. IsTrue (scheme_is s x Negotiate)) same n) t (subst (λ x. IsTrue (target_is s x t)) same target)
-
-  gained_choice : (past : List Event) (t : Target) (space terms : ℕ) (reply : BookReply) → IsPast s (Called (Select space terms) reply ∷ past) → IsTrue (choice_agrees s past space terms reply) → IsTrue (target_is s space t)
-      → IsTrue (negotiating s (held_selected space terms reply (held s past t))) → IsGained s past t
-  gained_choice past t space terms (Url gift evicted) run a target n =
-      let same : gift.space ≡ space = (may_hold_known s gift space terms a).1 in
-      inr (gained_gift past space terms (Url gift evicted) gift t run same n (subst (λ x. IsTrue (target_is s x t)) (sym same) target))
-  gained_choice past t space terms (Cached gift) run a target n =
-      let same : gift.space ≡ space = (may_hold_known s gift space terms a).1 in
-      inr (gained_gift past space terms (Cached gift) gift t run same n (subst (λ x. IsTrue (target_is s x t)) (sym same) target))
-  gained_choice past t space terms Default run a target n = inr (negotiate_choice s means past space terms (chosen_from s past space terms Default run) n t target)
-  gained_choice past t space terms _ run a target n = inl n
-
-  gained_answer : (past : List Event) (t : Target) (q text terms : ℕ) (reply : BookReply) → IsPast s (Called (Answer q text terms) reply ∷ past) → IsTrue (fits (Answer q text terms) reply) → IsTrue (answer_agrees s (space_prompted past q) text terms reply)
-      → IsTrue (negotiating s (held_prompted s t terms reply (held s past t))) → IsGained s past t
-  gained_answer past t q text terms (Given gift evicted) run f a n = gained_if s (target_is s gift.space t) (gift_held gift terms None) (held s past t) (λ target m. inr (by target m (prompted_from s past q text terms (Given gift evicted) run))) (λ m. inl m) n
+  -- a step is taken for a Negotiate identity
+  holding : (t : Target) (past : List Event) (asking : Asking) → IsStepFor s past t asking → (h : Held) × (held s past t ≡ Some h) × IsTrue (scheme_is s h.gift.space Negotiate)
+  holding t past (Start name identity) (h, held_now, n, none, same) = (h, held_now, n)
+  holding t past (GoOn peer) (link, reply, before, h, p, held_then, d, stay, c) = (h, held_now, negotiating_decides s reply t h (Some peer) d)
     where
-      by : IsTrue (target_is s gift.space t) → IsTrue (scheme_is s gift.space Negotiate) → IsAskedBehind q past → (list_any is_no_mechanism past ≡ false) × (t ≡ first_target s) × IsTrue s.has_negotiate
-      by target m (seen, space, ts, o, b, e) =
-          let r : IsPast s (AskedFor q seen ∷ Called (Select space ts) (Lead q o) ∷ b) = subst (IsPast s) e run.0 in
-          let held_in : gift.space ≡ space_prompted past q = (may_hold_known s gift (space_prompted past q) terms (both_of (not (text == 0)) (may_hold s gift (space_prompted past q) terms) a).1).1 in
-          let got = gained_gift b space ts (Lead q o) gift t r.0 (held_in ∙ (ap (λ x. space_prompted x q) e ∙ prompt_space q space ts o b)) m target in
-          (ap (list_any is_no_mechanism) e ∙ got.0, got.1, got.2)
-  gained_answer past t q text terms (Gave gift) run f a n = absurd (false≢true f)
-  gained_answer past t q text terms _ run f a n = inl n
+      held_now : held s past t ≡ Some h
+      held_now =
+          ap (λ x. held s x t) p ∙ (ap (option_and_then (held_replied s t reply)) held_then
+          ∙ ap (λ o. if challenges_target s reply t && is_none o then None else Some h) d
+          ∙ kept (challenges_target s reply t))
+        where
+          kept : (b : Bool) → (if b && false then None else Some h) ≡ Some h
+          kept true = refl
+          kept false = refl
 
-  gained_take : (past : List Event) (t : Target) (q : ℕ) (reply : BookReply) → IsPast s (Called (Take q) reply ∷ past) → IsTrue (fits (Take q) reply) → IsTrue (take_agrees s (space_prompted past q) (terms_followed past q) reply)
-      → IsTrue (negotiating s (held_prompted s t (terms_followed past q) reply (held s past t))) → IsGained s past t
-  gained_take past t q (Gave gift) run f a n = gained_if s (target_is s gift.space t) (gift_held gift (terms_followed past q) None) (held s past t) (λ target m. inr (by target m (taken_from s past q (Gave gift) run))) (λ m. inl m) n
-    where
-      by : IsTrue (target_is s gift.space t) → IsTrue (scheme_is s gift.space Negotiate) → IsFollowBehind q past → (list_any is_no_mechanism past ≡ false) × (t ≡ first_target s) × IsTrue s.has_negotiate
-      by target m (space, ts, b, e) =
-          let r : IsPast s (Called (Select space ts) (Follow q) ∷ b) = subst (IsPast s) e run.0 in
-          let held_in : gift.space ≡ space_prompted past q = (may_hold_known s gift (space_prompted past q) (terms_followed past q) a).1 in
-          let got = gained_gift b space ts (Follow q) gift t r (held_in ∙ (ap (λ x. space_prompted x q) e ∙ followed_space q space ts b)) m target in
-          (ap (list_any is_no_mechanism) e ∙ got.0, got.1, got.2)
-  gained_take past t q (Given gift evicted) run f a n = absurd (false≢true f)
-  gained_take past t q _ run f a n = inl n
-
-  gained_called : (past : List Event) (t : Target) (call : Call) (reply : BookReply) → IsPast s (Called call reply ∷ past) → IsTrue (fits call reply) → IsTrue (agrees s past call reply)
-      → IsTrue (negotiating s (held_called s t past call reply (held s past t))) → IsGained s past t
-  gained_called past t (Preempt target) reply run f a n = gained_if s (same_target target t) (held_ready reply (held s past t)) (held s past t) (λ same m. gained_ready past t target reply a m) (λ m. inl m) n
-  gained_called past t (Select space terms) reply run f a n = gained_if s (target_is s space t) (held_selected space terms reply (held s past t)) (held s past t) (λ target m. gained_choice past t space terms reply run a target m) (λ m. inl m) n
-  gained_called past t (Reject space ordinal) reply run f a n = gained_if s (target_is s space t) None (held s past t) (λ target m. absurd (false≢true m)) (λ m. inl m) n
-  gained_called past t (Renew gift terms) reply run f a n = gained_if s (target_is s gift.space t) (gift_held gift terms None) (held s past t) (λ target m. absurd (renewed_plain s past gift terms reply run m)) (λ m. inl m) n
-  gained_called past t (Answer q text terms) reply run f a n = gained_answer past t q text terms reply run f a n
-  gained_called past t (Take q) reply run f a n = gained_take past t q reply run f a n
-  gained_called past t _ reply run f a n = inl n
-
-  -- what is kept was held
-  kept_if : (f : Held → Option Held) → ((h : Held) → IsTrue (negotiating s (f h)) → IsTrue (scheme_is s h.gift.space Negotiate)) → (o : Option Held) → IsTrue (negotiating s (option_and_then f o)) → IsTrue (negotiating s o)
-  kept_if f g None n = absurd (false≢true n)
-  kept_if f g (Some h) n = g h n
-
-  changed_if : (f : Held → Held) → ((h : Held) → (f h).gift ≡ h.gift) → (o : Option Held) → IsTrue (negotiating s (option_map f o)) → IsTrue (negotiating s o)
-  changed_if f g None n = absurd (false≢true n)
-  changed_if f g (Some h) n = subst (λ x. IsTrue (scheme_is s x.space Negotiate)) (g h) n
-
-  stepped_kept : (step : StepSeen) (h : Held) → IsTrue (negotiating s (held_stepped step h)) → IsTrue (scheme_is s h.gift.space Negotiate)
-  stepped_kept (Token token) h n = n
-  stepped_kept NoMechanism h n = gained_if s (is_some h.context) (Some h) None (λ b m. m) (λ m. absurd (false≢true m)) n
-  stepped_kept _ h n = n
-
-  pub stepped_before : (past : List Event) (target : Target) (step : StepSeen) (t : Target) → IsTrue (negotiating s (held s (Stepped target step ∷ past) t)) → IsTrue (negotiating s (held s past t))
-  stepped_before past target step t n = gained_if s (same_target target t) (option_and_then (held_stepped step) (held s past t)) (held s past t) (λ same m. kept_if (held_stepped step) (stepped_kept step) (held s past t) m) (λ m. m) n
-
-  pub gained : (event : Event) (past : List Event) → IsPast s (event ∷ past) → (t : Target) → IsTrue (negotiating s (held s (event ∷ past) t)) → IsGained s past t
-  gained (Called call reply) past run t n = gained_called past t call reply run (fits_of s past call reply run.1) (agrees_of s past call reply run.1) n
-  gained (Drew target nonce count epoch) past run t n =
-      gained_if s (same_target target t) (option_and_then (held_drew epoch) (held s past t)) (held s past t)
-      (λ same m. inl (kept_if (held_drew epoch) (λ h k. gained_if s (unwrap_or h.preemptive epoch == epoch) (Some h) None (λ b x. x) (λ x. absurd (false≢true x)) k) (held s past t) m)) (λ m. inl m) n
-  gained (Stepped target step) past run t n = inl (stepped_before past target step t n)
-  gained (Headed link bytes) past run t n = inl (changed_if (held_headed link) (λ h. refl) (held s past t) n)
-  gained (Replied link reply) past run t n =
-      inl (kept_if (held_replied s t reply) (λ h k. gained_if s (challenges_target s reply t && is_none (deciding s reply t h)) None (Some h) (λ b x. absurd (false≢true x)) (λ x. x) k) (held s past t) n)
-  gained (LinkLost link) past run t n = inl (changed_if held_lost (λ h. refl) (held s past t) n)
-  gained _ past run t n = inl n
-
-  -- where `negotiate` challenges are passed over nothing of that kind is held
-  pub none_negotiating : s.has_negotiate ≡ false → (past : List Event) → IsPast s past → (t : Target) → IsTrue (negotiating s (held s past t)) → ⊥
-  none_negotiating never [] run t n = false≢true n
-  none_negotiating never (event ∷ past) run t n = at (none_negotiating never past run.0 t) (gained event past run t n)
-    where
-      at : (IsTrue (negotiating s (held s past t)) → ⊥) → IsGained s past t → ⊥
-      at earlier (inl before) = earlier before
-      at earlier (inr now) = false≢true (sym never ∙ now.2)
-
-  -- and the provider is never asked, so it never lacks a mechanism
+  -- where `negotiate` challenges are passed over the provider is never asked, so it never lacks a mechanism
   pub none_missing : s.has_negotiate ≡ false → (past : List Event) → IsPast s past → list_any is_no_mechanism past ≡ false
   none_missing never [] run = refl
-  none_missing never (Stepped t step ∷ past) run = let wanted = step_for s past t step run in absurd (by wanted.0 wanted.2)
-    where
-      by : (asking : Asking) → IsStepFor s past t asking → ⊥
-      by (Start name identity) (h, held_now, n, none, same) = none_negotiating never past run.0 t (ap (negotiating s) held_now ∙ n)
-      by (GoOn peer) (link, reply, before, h, p, held_then, d, stay, c) =
-          none_negotiating never before (subst (IsPast s) p run.0).0 t (ap (negotiating s) held_then ∙ negotiating_decides s reply t h (Some peer) d)
+  none_missing never (Stepped t step ∷ past) run =
+      let wanted = step_for s past t step run in
+      let h = holding t past wanted.0 wanted.2 in
+      absurd (none_negotiating s means never past run.0 t (ap (negotiating s) h.1 ∙ h.2))
   none_missing never (_ ∷ past) run = none_missing never past run.0
-
-  -- only the first target of the route holds one
-  pub one_target : (past : List Event) → IsPast s past → (t : Target) → IsTrue (negotiating s (held s past t)) → t ≡ first_target s
-  one_target [] run t n = absurd (false≢true n)
-  one_target (event ∷ past) run t n = at (one_target past run.0 t) (gained event past run t n)
-    where
-      at : (IsTrue (negotiating s (held s past t)) → t ≡ first_target s) → IsGained s past t → t ≡ first_target s
-      at earlier (inl before) = earlier before
-      at earlier (inr now) = now.1
 
   -- HOW MANY
 
@@ -312,7 +76,7 @@ module _ (s : Setting) (means : IsNumbered s) where
       is_proxy _ = false
 
       at : (a : Bool) → negotiating s (held s past Proxy) ≡ a → (b : Bool) → negotiating s (held s past Server) ≡ b → one_if a + one_if b ≤ 1
-      at true p true q = let clash : Proxy ≡ Server = one_target past run Proxy p ∙ sym (one_target past run Server q) in absurd (false≢true (sym (ap is_proxy clash)))
+      at true p true q = let clash : Proxy ≡ Server = one_target s means past run Proxy p ∙ sym (one_target s means past run Server q) in absurd (false≢true (sym (ap is_proxy clash)))
       at true p false q = omega arith
       at false p true q = omega arith
       at false p false q = omega arith
@@ -324,11 +88,11 @@ module _ (s : Setting) (means : IsNumbered s) where
   other_event : (event : Event) (past : List Event) → IsPast s (event ∷ past) → list_any is_no_mechanism (event ∷ past) ≡ list_any is_no_mechanism past → drops s (event ∷ past) ≡ drops s past → Dropped past → Dropped (event ∷ past)
   other_event event past run same equal (none_yet none zero_drops) = none_yet (same ∙ none) (equal ∙ zero_drops)
   other_event event past run same equal (from_now some few) =
-      let proxy : one_if (negotiating s (held s (event ∷ past) Proxy)) ≤ one_if (negotiating s (held s past Proxy)) = fewer _ _ (λ n. before Proxy (gained event past run Proxy n)) in
-      let server : one_if (negotiating s (held s (event ∷ past) Server)) ≤ one_if (negotiating s (held s past Server)) = fewer _ _ (λ n. before Server (gained event past run Server n)) in
+      let proxy : one_if (negotiating s (held s (event ∷ past) Proxy)) ≤ one_if (negotiating s (held s past Proxy)) = fewer _ _ (λ n. before Proxy (gained s means event past run Proxy n)) in
+      let server : one_if (negotiating s (held s (event ∷ past) Server)) ≤ one_if (negotiating s (held s past Server)) = fewer _ _ (λ n. before Server (gained s means event past run Server n)) in
       from_now (same ∙ some) (omega (arith, equal, few, proxy, server))
     where
-      before : (t : Target) → IsGained s past t → IsTrue (negotiating s (held s past t))
+      before : (t : Target) → IsGained s event past t → IsTrue (negotiating s (held s past t))
       before t (inl n) = n
       before t (inr now) = absurd (false≢true (sym now.0 ∙ some))
 
@@ -337,10 +101,10 @@ module _ (s : Setting) (means : IsNumbered s) where
   no_mechanism t past run d = at (is_some (option_and_then (λ (h : Held). h.context) (held s past t))) refl
     where
       proxy : one_if (negotiating s (held s (Stepped t NoMechanism ∷ past) Proxy)) ≤ one_if (negotiating s (held s past Proxy))
-      proxy = fewer _ _ (λ n. stepped_before past t NoMechanism Proxy n)
+      proxy = fewer _ _ (λ n. stepped_before s means past t NoMechanism Proxy n)
 
       server : one_if (negotiating s (held s (Stepped t NoMechanism ∷ past) Server)) ≤ one_if (negotiating s (held s past Server))
-      server = fewer _ _ (λ n. stepped_before past t NoMechanism Server n)
+      server = fewer _ _ (λ n. stepped_before s means past t NoMechanism Server n)
 
       few : drops s past + holders past ≤ 1
       few = by d (one_holder past run.0)
@@ -381,18 +145,7 @@ module _ (s : Setting) (means : IsNumbered s) where
           by_route (inr p) = let none : one_if (negotiating s (held s (Stepped t NoMechanism ∷ past) Server)) ≡ 0 = ap one_if (gone Server p) in omega (arith, few, proxy, none, was Server p, drops_with false e)
 
       by_step : is_some (option_and_then (λ (h : Held). h.context) (held s past t)) ≡ false → (asking : Asking) → IsStepFor s past t asking → ((t ≡ Proxy) ⊎ (t ≡ Server)) → drops s (Stepped t NoMechanism ∷ past) + holders (Stepped t NoMechanism ∷ past) ≤ 1
-      by_step e (Start name identity) (h, held_now, n, none, same) route = starting e h held_now n route
-      by_step e (GoOn peer) (link, reply, before, h, p, held_then, d, stay, c) route = starting e h held_now (negotiating_decides s reply t h (Some peer) d) route
-        where
-          held_now : held s past t ≡ Some h
-          held_now =
-              ap (λ x. held s x t) p ∙ (ap (option_and_then (held_replied s t reply)) held_then
-              ∙ ap (λ o. if challenges_target s reply t && is_none o then None else Some h) d
-              ∙ kept (challenges_target s reply t))
-            where
-              kept : (b : Bool) → (if b && false then None else Some h) ≡ Some h
-              kept true = refl
-              kept false = refl
+      by_step e asking step route = let h = holding t past asking step in starting e h.0 h.1 h.2 route
 
       at : (b : Bool) → is_some (option_and_then (λ (h : Held). h.context) (held s past t)) ≡ b → Dropped (Stepped t NoMechanism ∷ past)
       at true e = from_now refl (omega (arith, few, proxy, server, drops_with true e))
@@ -414,6 +167,24 @@ module _ (s : Setting) (means : IsNumbered s) where
       at : Dropped past → drops s past ≤ 1
       at (none_yet none zero_drops) = omega (arith, zero_drops)
       at (from_now some few) = omega (arith, few)
+
+  -- what has no mechanism was for an identity that was chosen without terms
+  no_mechanism_plain : (t : Target) (past : List Event) → IsPast s (Stepped t NoMechanism ∷ past) → IsTrue (list_any is_plain past)
+  no_mechanism_plain t past run =
+      let step = step_for s past t NoMechanism run in
+      let h = holding t past step.0 step.2 in
+      plain_chosen s means past run.0 t (ap (negotiating s) h.1 ∙ h.2)
+
+  -- so a choice without terms comes before what is given up
+  pub drops_plain : (past : List Event) → IsPast s past → (drops s past ≡ 0) ⊎ IsTrue (list_any is_plain past)
+  drops_plain [] run = inl refl
+  drops_plain (event ∷ past) run = by event run (drops_plain past run.0)
+    where
+      by : (x : Event) → IsPast s (x ∷ past) → (drops s past ≡ 0) ⊎ IsTrue (list_any is_plain past) → (drops s (x ∷ past) ≡ 0) ⊎ IsTrue (list_any is_plain (x ∷ past))
+      by (Stepped t NoMechanism) r d = inr (no_mechanism_plain t past r)
+      by (Stepped t step) r (inl none) = inl none
+      by x r (inr plain) = inr (or_true (is_plain x) (list_any is_plain past) plain)
+      by x r (inl none) = inl none
 
   pub calls_bound : (past : List Event) → IsPast s past → length (calls past) ≤ 56
   calls_bound past run = omega (arith, few_calls s past run, drops_bound past run)

@@ -20,4 +20,5 @@ pub mod DrawCount
 pub mod DrawNames
 pub mod Negotiating
 pub mod Stepping
+pub mod Gains
 pub mod Drops

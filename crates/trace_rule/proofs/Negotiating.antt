@@ -1,24 +1,24 @@
 -- Only one target of a request holds a Negotiate identity, and none is gained where the provider has no mechanism.
-use Rattle.std.proofs.Common.{◌≡◌, ◌⊎◌, inl, inr, ℕ, ◌+◌, ◌≤◌, Bool, true, false, not, ◌&&◌, ◌||◌, ◌==◌, IsTrue, List, [], ◌∷◌, Option, Some, None, is_some, option_and_then, option_map, unwrap_or, refl, sym, ap, ◌∙◌, subst, arith, if◌then◌else◌, Result, Ok, Err}
+use Rattle.std.proofs.Common.{◌≡◌, inl, inr, ℕ, Bool, true, false, not, ◌&&◌, ◌||◌, ◌==◌, IsTrue, List, [], ◌∷◌, Option, Some, None, option_and_then, option_map, unwrap_or, refl, sym, ap, ◌∙◌, subst, if◌then◌else◌, Result, Ok, Err}
 use Rattle.std.specs.Prelude.{filter_map, find, codes, bytes_eq}
 use Rattle.std.specs.List.{list_any, cons_option}
-use Rattle.std.proofs.lemmas.Bool.{false≢true, eq-eqb}
+use Rattle.std.proofs.lemmas.Bool.{false≢true}
 use Rattle.spaces.specs.declared.site.Site.{Site}
 use Rattle.spaces.specs.declared.site.Target.{Target}
 use Rattle.spaces.specs.declared.site.Target.TheVariants.{Server, Proxy, Socks}
 use Rattle.spaces.specs.declared.space.Scheme.{Scheme}
-use Rattle.spaces.specs.declared.space.Scheme.TheVariants.{Basic, Digest, Negotiate, Password}
+use Rattle.spaces.specs.declared.space.Scheme.TheVariants.{Basic, Digest, Negotiate}
 use Rattle.spaces.specs.ProtectionSpaces.{ProtectionSpace}
 use Rattle.spaces.specs.Sites.{site, same_scheme, same_target}
 use Rattle.challenge_tokens.specs.declared.challenge.Challenge.{Challenge}
 use Rattle.digest_handler.specs.declared.challenge_terms.Passed.{Passed}
 use Rattle.digest_handler.specs.declared.challenge_terms.TermsRead.{TermsRead}
 use Rattle.digest_handler.specs.ChallengeTerms.{terms_read}
-use Rattle.auth_events.specs.declared.journal.Gift.{Gift}
 use Rattle.auth_events.specs.declared.journal.Call.{Call}
-use Rattle.auth_events.specs.declared.journal.Call.TheVariants.{Begin, Preempt, Select, Reject, Renew, Answer, Lose, Take}
+use Rattle.auth_events.specs.declared.journal.Call.TheVariants.{Begin, Select, Reject, Renew, Answer, Lose, Take}
 use Rattle.auth_events.specs.declared.journal.BookReply.{BookReply}
 use Rattle.auth_events.specs.declared.journal.BookReply.TheVariants.{Lead, Follow}
+use Rattle.auth_events.specs.Book.{is_digest}
 use Rattle.auth_events.specs.Pages.{fits}
 use Rattle.wire_head.specs.declared.reply.Reply.{Reply}
 use Rattle.link_trait.specs.declared.prompts.AskSeen.{AskSeen}
@@ -28,16 +28,16 @@ use Rattle.auth_runs.specs.declared.event.Event.{Event}
 use Rattle.auth_runs.specs.declared.event.Event.TheVariants.{Called, AskedFor}
 use Rattle.trace_rule.specs.Settings.{Setting, first_target, is_proxied, or_else, scheme_is, target_is}
 use Rattle.trace_rule.specs.Challenges.{Offer, offer, supported, best, first_by, space_at, challenges, challenged, realm_of, basic_offer, digest_offer, negotiate_offer}
-use Rattle.trace_rule.specs.Holding.{Held, negotiates, is_no_mechanism}
+use Rattle.trace_rule.specs.Holding.{negotiates, is_no_mechanism}
 use Rattle.trace_rule.specs.Settings.{IsNumbered}
-use Rattle.trace_rule.specs.Closings.{is_closing}
+use Rattle.trace_rule.specs.Moves.{terms_offered}
 use Rattle.trace_rule.specs.Traces.{IsPast}
 use Rattle.trace_rule.proofs.Reasons.{Reason, IsChoice, reason, MadeBy, made_by, made_for, closing_never}
 use Rattle.trace_rule.proofs.Reasons.Reason.{begins, preempts, preempts_server, selects, is_rejected, is_renewed, cancels, loses, takes}
 use Rattle.trace_rule.proofs.Reasons.MadeBy.{wanted, answers, at_end}
 use Rattle.trace_rule.proofs.Waiting.{IsLed, given_behind}
 use Rattle.trace_rule.proofs.Stages.{fits_of, asks_from}
-use Rattle.trace_rule.proofs.Allowed.{parts, not_that, site_target}
+use Rattle.trace_rule.proofs.Allowed.{Fits, FitsIf, all_fit, best_fits, parts, not_that, site_target}
 
 -- OFFERS
 
@@ -153,6 +153,31 @@ negotiate_choice s means past space terms c negotiate t target = at (negotiates 
         let both = parts (s.has_negotiate && (same_target c.target Proxy || not (is_proxied s))) (not (list_any is_no_mechanism past)) e in
         let route = parts s.has_negotiate (same_target c.target Proxy || not (is_proxied s)) both.0 in
         (none_if (list_any is_no_mechanism past) both.1, same ∙ first_of_route s c.reply c.target c.of_target route.1, route.0)
+
+-- it is chosen without terms
+pub negotiate_plain : (s : Setting) → IsNumbered s → (past : List Event) (space terms : ℕ) → IsChoice s past space terms → IsTrue (scheme_is s space Negotiate) → terms ≡ 0
+negotiate_plain s means past space terms c negotiate = by offer_fits
+  where
+    chosen : (place : Site) × (site s.request c.target ≡ Some place) × (s.space_of space ≡ Some (space_at place c.offered))
+    chosen = chosen_space s means past space terms c
+
+    scheme : IsTrue (same_scheme c.offered.scheme Negotiate)
+    scheme = sym (ap (λ o. unwrap_or (option_map (λ (n : ProtectionSpace). same_scheme n.scheme Negotiate) o) false) chosen.2) ∙ negotiate
+
+    no_digest : (x : Scheme) → IsTrue (same_scheme x Negotiate) → is_digest x ≡ true → ⊥
+    no_digest Negotiate n d = false≢true d
+    no_digest _ n d = false≢true n
+
+    offer_fits : Fits c.offered
+    offer_fits = subst FitsIf c.is_best (best_fits (supported (negotiates s past c.target) c.reply) (all_fit (negotiates s past c.target) (challenges c.reply)))
+
+    number_or : Option ℕ → ℕ
+    number_or None = 0
+    number_or (Some n) = n
+
+    by : Fits c.offered → terms ≡ 0
+    by (inl (none, plain)) = let told : Some 0 ≡ Some terms = sym (ap (terms_offered s space) none) ∙ c.is_terms in ap number_or (sym told)
+    by (inr (ts, is, digest)) = absurd (no_digest c.offered.scheme scheme digest)
 
 -- WHERE A PROMPT COMES FROM
 
