@@ -1,0 +1,4 @@
+pub mod NamedLemmas
+pub mod UseLemmas
+pub mod OneAnswer
+pub mod RequestLemmas

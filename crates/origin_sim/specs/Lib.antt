@@ -1,0 +1,6 @@
+pub mod Texts
+pub mod Named
+pub mod Judging
+pub mod Worlds
+pub mod Steps
+pub mod Generated
