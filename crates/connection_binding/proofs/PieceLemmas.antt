@@ -1,5 +1,5 @@
 -- What one read more does to a reading.
-use Rattle.std.proofs.Common.{◌≡◌, ◌∙◌, inl, inr, ℕ, ◌+◌, ◌≤◌, Bool, true, false, List, [], ◌∷◌, ◌++◌, length, take, drop, Option, Some, None, Result, Ok, Err, refl, sym, subst, ap, append_assoc, arith}
+use Rattle.std.proofs.Common.{◌≡◌, ◌∙◌, inl, inr, ℕ, ◌+◌, ◌≤◌, Bool, true, false, List, [], ◌∷◌, ◌++◌, length, take, drop, Option, Some, None, Result, Ok, refl, sym, subst, ap, append_assoc, arith}
 use Rattle.std.specs.Prelude.{IfSome}
 use Rattle.std.specs.List.{list_all}
 use Rattle.std.proofs.lemmas.List.{append-nil, length-append, length-take-le, take-append-drop, drop-drop, take_all}
@@ -26,10 +26,8 @@ use Rattle.wire_head.proofs.WithinLemmas.{ends_at_end}
 use Rattle.connection_binding.specs.LinkStates.{LinkState}
 use Rattle.connection_binding.specs.declared.ends.ReadEnd.{ReadEnd}
 use Rattle.connection_binding.specs.declared.ends.ReadEnd.TheVariants.{Whole, Broken, Lost, Failed, NoMemory}
-use Rattle.connection_binding.specs.declared.reading.Piece.{Piece}
-use Rattle.connection_binding.specs.declared.reading.Piece.TheVariants.{More, AtEnd, Over}
 use Rattle.connection_binding.specs.Ends.{IsReadFault, IsNoReadFault}
-use Rattle.connection_binding.specs.Readings.{behind, is_gone, Shows, is_read_of, IsNextOf, IsOfStream, IsNextRead, IsUndecided, IsShownAtEnd, IsOver, IsEnded, IsPieceOf, IsShown, IsFedAnswer, piece_of, IsPieceFault, IsNoPieceFault}
+use Rattle.connection_binding.specs.Readings.{behind, is_gone, Shows, is_read_of, IsNextOf, IsOfStream, IsUndecided, IsShownAtEnd, IsOver, IsEnded, IsPieceOf, IsShown, IsFedAnswer, piece_of, IsPieceFault, IsNoPieceFault}
 
 -- nothing more
 pub grown_nothing : {A : Type 0} (told : Option (List A)) → told ≡ grown told []
@@ -134,17 +132,20 @@ shown_at_last link method text false NoMemory is open_ shown = absurd shown
 decided : (link : LinkState) (method : Method) (streams : Option (LinkName → List ℕ)) (old mid new : Option (List Traffic)) (least : ℕ) (gone : Bool) (reader : Text) (event : Traffic)
     (read : Stream) (end : ReadEnd) (left : List ℕ) → (u : IsUndecided link method streams old mid least gone reader) → new ≡ grown mid (event ∷ []) → is_read_of link.name event ≡ true
     → read_on link.name (u.pieces ++ event ∷ []) ≡ read → Shows link method (behind link read) end left → IsOfStream streams old link.name read → IsOver link method streams old new end left
-decided link method streams old mid new least gone reader event read end left u grew one is shows stream = (record {
-  front = u.pieces;
-  last = event ∷ [];
-  grew = grown_twice old mid new u.pieces (event ∷ []) u.grew grew;
-  of_link = of_link_more link.name u.pieces event u.of_link one;
-  undecided = inr (ap (λ (s : Stream). reply method (link.kept ++ s.bytes) s.ended) u.read ∙ u.undecided);
-  one = omega arith;
-  left = left;
-  shows = subst (λ s. Shows link method (behind link s) end left) (sym is) shows;
-  of_stream = subst (λ s. IsOfStream streams old link.name s) (sym is) stream;
-}, refl)
+decided link method streams old mid new least gone reader event read end left u grew one is shows stream = (
+  record {
+    front = u.pieces;
+    last = event ∷ [];
+    grew = grown_twice old mid new u.pieces (event ∷ []) u.grew grew;
+    of_link = of_link_more link.name u.pieces event u.of_link one;
+    undecided = inr (ap (λ (s : Stream). reply method (link.kept ++ s.bytes) s.ended) u.read ∙ u.undecided);
+    one = omega arith;
+    left = left;
+    shows = subst (λ s. Shows link method (behind link s) end left) (sym is) shows;
+    of_stream = subst (λ s. IsOfStream streams old link.name s) (sym is) stream;
+  },
+  refl,
+)
 
 -- one read more, which gives nothing
 stopped : (link : LinkState) (method : Method) (streams : Option (LinkName → List ℕ)) (old mid new : Option (List Traffic)) (least : ℕ) (gone : Bool) (reader : Text) (end : ReadEnd)
@@ -152,18 +153,20 @@ stopped : (link : LinkState) (method : Method) (streams : Option (LinkName → L
     → Shows link method (behind link (record { bytes = u.bytes; ended = false })) end [] → IsOver link method streams old new end []
 stopped link method streams old mid new least gone reader end u grew shows =
     let all : u.pieces ++ [] ≡ u.pieces = append-nil u.pieces in
-    let is : read_on link.name (u.pieces ++ []) ≡ record { bytes = u.bytes; ended = false } = ap (read_on link.name) all ∙ u.read in
-    (record {
-      front = u.pieces;
-      last = [];
-      grew = grown_twice old mid new u.pieces [] u.grew grew;
-      of_link = ap (list_all (is_read_of link.name)) all ∙ u.of_link;
-      undecided = inr (ap (λ (s : Stream). reply method (link.kept ++ s.bytes) s.ended) u.read ∙ u.undecided);
-      one = omega arith;
-      left = [];
-      shows = subst (λ s. Shows link method (behind link s) end []) (sym is) shows;
-      of_stream = subst (λ s. IsOfStream streams old link.name s) (sym is) u.of_stream;
-    }, refl)
+    let is : read_on link.name (u.pieces ++ []) ≡ record { bytes = u.bytes; ended = false } = ap (read_on link.name) all ∙ u.read in (
+      record {
+        front = u.pieces;
+        last = [];
+        grew = grown_twice old mid new u.pieces [] u.grew grew;
+        of_link = ap (list_all (is_read_of link.name)) all ∙ u.of_link;
+        undecided = inr (ap (λ (s : Stream). reply method (link.kept ++ s.bytes) s.ended) u.read ∙ u.undecided);
+        one = omega arith;
+        left = [];
+        shows = subst (λ s. Shows link method (behind link s) end []) (sym is) shows;
+        of_stream = subst (λ s. IsOfStream streams old link.name s) (sym is) u.of_stream;
+      },
+      refl,
+    )
 
 pub failed_piece : (link : LinkState) (method : Method) (streams : Option (LinkName → List ℕ)) (old mid new : Option (List Traffic)) (least : ℕ) (gone : Bool) (reader : Text) (count : ℕ)
     → IsUndecided link method streams old mid least gone reader → new ≡ grown mid [] → IsOver link method streams old new (Failed count) []
@@ -191,31 +194,38 @@ fed_piece link method streams old mid new least n gone buf left reader later ans
   where
     all : take n buf ≡ buf
     all = ap (λ (k : ℕ). take k buf) (sym fits) ∙ take_all (length buf) buf (omega arith)
+
     came : new ≡ grown mid (Received link.name buf ∷ [])
     came = grew ∙ ap (λ (bytes : List ℕ). grown mid (Received link.name bytes ∷ [])) all
+
     joined : (link.kept ++ u.bytes) ++ buf ≡ link.kept ++ (u.bytes ++ buf)
     joined = append_assoc link.kept u.bytes buf
+
     size : length (u.bytes ++ buf) ≡ length u.bytes + length buf
     size = length-append u.bytes buf
+
     stream : IsOfStream streams old link.name (record { bytes = u.bytes ++ buf; ended = false })
     stream = subst (λ (bytes : List ℕ). IsOfStream streams old link.name (record { bytes = u.bytes ++ bytes; ended = false })) all
         (stream_bytes streams old mid link.name u.pieces u.bytes buf n u.grew (ap (λ (s : Stream). s.bytes) u.read) u.of_stream gives (omega (arith, fits)))
+
     by_piece : (p : Option ReadEnd) → IsFedAnswer (reply method ((link.kept ++ u.bytes) ++ buf) false) ((link.kept ++ u.bytes) ++ buf) p left
         → (p ≡ None → IsFed later method ((link.kept ++ u.bytes) ++ buf)) → IsPieceOf link method streams old new least gone later (piece_of p) left
     by_piece None shown fed =
-        let long = u.long in
-        (record {
-          pieces = u.pieces ++ Received link.name buf ∷ [];
-          bytes = u.bytes ++ buf;
-          grew = grown_twice old mid new u.pieces (Received link.name buf ∷ []) u.grew came;
-          of_link = of_link_more link.name u.pieces (Received link.name buf) u.of_link (same_self link.name);
-          read = read_bytes link.name u.pieces u.bytes buf u.read;
-          fed = subst (IsFed later method) joined (fed refl);
-          undecided = subst (λ text. reply method text false ≡ Ok None) joined shown.0;
-          gone_here = some_byte link (link.kept ++ u.bytes) buf (omega (arith, some, fits)) ∙ ap (λ (text : List ℕ). is_gone link (record { bytes = text; ended = true })) joined;
-          long = omega (arith, size, long, some, fits);
-          of_stream = stream;
-        }, shown.1)
+        let long = u.long in (
+          record {
+            pieces = u.pieces ++ Received link.name buf ∷ [];
+            bytes = u.bytes ++ buf;
+            grew = grown_twice old mid new u.pieces (Received link.name buf ∷ []) u.grew came;
+            of_link = of_link_more link.name u.pieces (Received link.name buf) u.of_link (same_self link.name);
+            read = read_bytes link.name u.pieces u.bytes buf u.read;
+            fed = subst (IsFed later method) joined (fed refl);
+            undecided = subst (λ text. reply method text false ≡ Ok None) joined shown.0;
+            gone_here = some_byte link (link.kept ++ u.bytes) buf (omega (arith, some, fits)) ∙ ap (λ (text : List ℕ). is_gone link (record { bytes = text; ended = true })) joined;
+            long = omega (arith, size, long, some, fits);
+            of_stream = stream;
+          },
+          shown.1,
+        )
     by_piece (Some end) shown fed =
         decided link method streams old mid new least gone reader (Received link.name buf) (record { bytes = u.bytes ++ buf; ended = false }) end left u came (same_self link.name)
         (read_bytes link.name u.pieces u.bytes buf u.read)
@@ -244,17 +254,20 @@ stream_start (Some streams) (Some told) link = record { front = refl; whole = λ
 -- what was kept alone shows the answer, or there is no memory to look at it
 unread_over : (link : LinkState) (method : Method) (streams : Option (LinkName → List ℕ)) (told : Option (List Traffic)) (end : ReadEnd) (left : List ℕ)
     → Shows link method (record { bytes = link.kept; ended = false }) end left → IsOver link method streams told told end left
-unread_over link method streams told end left shows = (record {
-  front = [];
-  last = [];
-  grew = grown_nothing told;
-  of_link = refl;
-  undecided = inl refl;
-  one = omega arith;
-  left = left;
-  shows = subst (λ text. Shows link method (record { bytes = text; ended = false }) end left) (sym (append-nil link.kept)) shows;
-  of_stream = stream_start streams told link.name;
-}, refl)
+unread_over link method streams told end left shows = (
+  record {
+    front = [];
+    last = [];
+    grew = grown_nothing told;
+    of_link = refl;
+    undecided = inl refl;
+    one = omega arith;
+    left = left;
+    shows = subst (λ text. Shows link method (record { bytes = text; ended = false }) end left) (sym (append-nil link.kept)) shows;
+    of_stream = stream_start streams told link.name;
+  },
+  refl,
+)
 
 pub kept_shows : (link : LinkState) (method : Method) (streams : Option (LinkName → List ℕ)) (told : Option (List Traffic)) (reader : Text) (end : ReadEnd) (left : List ℕ)
     → IsFed reader method [] → ((m : Method) (text : List ℕ) → IsFed reader m text → IsFedAnswer (reply m (text ++ link.kept) false) (text ++ link.kept) (Some end) left)
@@ -268,19 +281,21 @@ pub kept_open : (link : LinkState) (method : Method) (streams : Option (LinkName
     → IsUndecided link method streams told told 0 gone later × (left ≡ [])
 kept_open link method streams told gone reader later answered left fed is gone_here answer goes_on =
     let shown : IsFedAnswer (reply method link.kept false) link.kept None left = subst (λ p. IsFedAnswer (reply method link.kept false) link.kept p left) is (answer method [] fed) in
-    let all : link.kept ≡ link.kept ++ [] = sym (append-nil link.kept) in
-    (record {
-      pieces = [];
-      bytes = [];
-      grew = grown_nothing told;
-      of_link = refl;
-      read = refl;
-      fed = subst (IsFed later method) all (goes_on method [] fed is);
-      undecided = subst (λ text. reply method text false ≡ Ok None) all shown.0;
-      gone_here = gone_here ∙ ap (λ (text : List ℕ). is_gone link (record { bytes = text; ended = true })) all;
-      long = omega arith;
-      of_stream = stream_start streams told link.name;
-    }, shown.1)
+    let all : link.kept ≡ link.kept ++ [] = sym (append-nil link.kept) in (
+      record {
+        pieces = [];
+        bytes = [];
+        grew = grown_nothing told;
+        of_link = refl;
+        read = refl;
+        fed = subst (IsFed later method) all (goes_on method [] fed is);
+        undecided = subst (λ text. reply method text false ≡ Ok None) all shown.0;
+        gone_here = gone_here ∙ ap (λ (text : List ℕ). is_gone link (record { bytes = text; ended = true })) all;
+        long = omega arith;
+        of_stream = stream_start streams told link.name;
+      },
+      shown.1,
+    )
 
 -- nothing was read for want of memory
 pub nothing_read : (link : LinkState) (method : Method) (streams : Option (LinkName → List ℕ)) (told : Option (List Traffic)) → IsOver link method streams told told NoMemory []

@@ -1,6 +1,5 @@
 -- What is left of a window.
 use Rattle.std.proofs.Common.{◌≡◌, ◌∙◌, ℕ, ◌+◌, ◌-◌, ◌≤◌, List, length, take, drop, sym, ap, arith}
-use Rattle.std.specs.Prelude.{min}
 use Rattle.std.proofs.lemmas.List.{length-take, drop-take, drop-drop}
 
 pub window_taken : (from to count : ℕ) (xs : List ℕ) → count ≤ length (take (to - from) (drop from xs))

@@ -23,12 +23,11 @@ returns-in-Bytes-clause-quiet g c quiet =
     ((c.in-Bytes.ensures.quiet quiet).0, subst (λ (p : Piece). IsNoPieceFault p) (sym c.piece_of.ensures) (no_piece_read c.fed.result c.fed.ensures.quiet))
 
 pub returns-in-End-clause-piece : goal.returns-in-End-clause-piece
-returns-in-End-clause-piece g c kept has_replied method told least gone u =
-    (
-      end_piece (state_of c.args.link kept has_replied) method (g.D.Dialer.streams c.args.dialer.now) told (g.D.Dialer.traffic c.args.dialer.now) (g.D.Dialer.traffic c.fill.new.dialer) least gone
+returns-in-End-clause-piece g c kept has_replied method told least gone u = (
+  end_piece (state_of c.args.link kept has_replied) method (g.D.Dialer.streams c.args.dialer.now) told (g.D.Dialer.traffic c.args.dialer.now) (g.D.Dialer.traffic c.fill.new.dialer) least gone
       c.fill.new.self c.args.reader.now u c.in-End.ensures.traffic c.in-End.ensures.stream,
-      c.in-End.ensures.count,
-    )
+  c.in-End.ensures.count,
+)
 
 pub returns-in-Failed-clause-piece : goal.returns-in-Failed-clause-piece
 returns-in-Failed-clause-piece g c kept has_replied method told least gone u =

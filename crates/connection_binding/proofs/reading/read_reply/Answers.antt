@@ -1,4 +1,4 @@
-use Rattle.std.proofs.Common.{◌≡◌, ◌∙◌, ◌+◌, ℕ, false, List, Option, refl, sym, ap, subst, arith}
+use Rattle.std.proofs.Common.{◌∙◌, ◌+◌, ℕ, false, List, Option, refl, sym, ap, subst, arith}
 use Rattle.link_trait.specs.declared.links.LinkName.{LinkName}
 use Rattle.link_trait.specs.Links.{has_link}
 use Rattle.connection_binding.specs.declared.ends.ReadEnd.TheVariants.{NoMemory}
@@ -55,7 +55,7 @@ loop-read-preserved g c =
       later = omega (arith, before, rose);
       quiet = λ q. (c.read_piece.ensures.quiet (inv.quiet q)).0;
       undecided = subst (λ (streams : Option (LinkName → List ℕ)). IsUndecided (state_of c.args.link c.args.window.now c.args.has_replied) c.args.method streams
-      (g.D.Dialer.traffic c.args.dialer.now) (g.D.Dialer.traffic c.read_piece.new.dialer) (c.loop-read.read + 1) false c.read_piece.new.reader) (sym c.read_piece.ensures.streams) step.0;
+          (g.D.Dialer.traffic c.args.dialer.now) (g.D.Dialer.traffic c.read_piece.new.dialer) (c.loop-read.read + 1) false c.read_piece.new.reader) (sym c.read_piece.ensures.streams) step.0;
     }
 
 pub returns-in-AtEnd-clause-reply : goal.returns-in-AtEnd-clause-reply

@@ -13,5 +13,5 @@ invariant-loop-read g l = record {
   later : g.D.Dialer.faults l.fn.dialer ≤ g.D.Dialer.faults l.dialer;
   quiet : g.D.Dialer.quiet l.fn.dialer → g.D.Dialer.quiet l.dialer;
   undecided : IsUndecided (record { name = l.link; kept = l.fn.window; has_replied = l.has_replied }) l.fn.method (g.D.Dialer.streams l.dialer) (g.D.Dialer.traffic l.fn.dialer) (g.D.Dialer.traffic l.dialer)
-    l.read l.gone l.reader;
+      l.read l.gone l.reader;
 }
