@@ -1,9 +1,9 @@
 -- A book that decides by an index which stands for its journal.
-use Rattle.std.proofs.Common.{◌≡◌, ℕ, ◌+◌, ◌≤◌, Bool, true, false, cond, List, [], ◌∷◌, ◌++◌, length, refl, ap, sym, subst, ◌∙◌, Some, None}
+use Rattle.std.proofs.Common.{◌≡◌, ℕ, ◌+◌, ◌≤◌, Bool, true, false, cond, List, [], ◌∷◌, ◌++◌, length, refl, ap, sym, subst, ◌∙◌, Option, Some, None}
 use Rattle.std.proofs.Math.Logic.{∥∥₁_elim, ∥∥₁_map}
 use Rattle.std.proofs.Props.{props}
 use Rattle.std.specs.Coded.{Coded, Coded-set, codes}
-use Rattle.std.specs.Prelude.{IsTrue, OnErr, OnOk, Result, Ok, Err, is_some, reverse}
+use Rattle.std.specs.Prelude.{IfOk, IsTrue, OnErr, OnOk, Result, Ok, Err, is_some, option_map, reverse}
 use Rattle.std.proofs.lemmas.List.{reverse-append}
 use Rattle.spaces.specs.declared.roster.Roster.{Roster}
 use Rattle.auth_events.specs.declared.journal.Entry.{Entry}
@@ -21,8 +21,12 @@ use Rattle.auth_events.specs.Tables.{AreNames, Tables, nonce_for, space_number, 
 use Rattle.auth_events.specs.Book.{IsLegalPast, allowed, answer, retired}
 use Rattle.auth_events.specs.Told.{is_pending, retired_by}
 use Rattle.auth_events.specs.Ledgers.{IsKept}
+use Rattle.auth_events.specs.declared.controller.TermsRef.{TermsRef}
+use Rattle.auth_events.proofs.Naming.{named_terms, terms_name_is}
 use Rattle.auth_events.proofs.LedgerLaws.{are_names, few}
 use Rattle.auth_events.proofs.Once.{IsLegalPast-prop}
+use Rattle.name_index.specs.declared.index.NameIndex.{NameIndex}
+use Rattle.name_index.specs.Found.{KnowsNames}
 use Rattle.auth_book.specs.declared.index.BookIndex.{BookIndex}
 use Rattle.auth_book.specs.Indices.{StandsFor}
 use Rattle.auth_book.proofs.AddSpace.{stands_with_terms, stands_with_text}
@@ -84,7 +88,7 @@ module _ (roster : Roster) (names : Tables) (log : List NewName) (entries : List
 -- NAMING
 
 module _ (names more : Tables) (space : ProtectionSpace) (unnamed : space_number names space ≡ None) (is : more ≡ with_new_space names space) where
-  is_more : more ≡ with_space names space
+  pub is_more : more ≡ with_space names space
   is_more = is ∙ ap (λ o. cond (is_some o) names (with_space names space)) unnamed
 
   pub one_more : length more.spaces ≡ length names.spaces + 1
@@ -132,3 +136,31 @@ module _ (roster : Roster) (names : Tables) (log : List NewName) (entries : List
       → ∥ StandsFor after roster more (reverse entries) ∥₁
   lasts_with_space space more after unnamed is added =
       ∥∥₁_map stands (added roster names space (reverse entries) (is_more names more space unnamed is) (are_names roster names log entries kept) legal_now)
+
+-- WHAT THE MAPS KNOW
+
+-- whether the names grew or stayed
+pub known_after : {T E : Type 0} (result : Result T E) (numbers : NameIndex) (names grown more : Tables) → KnowsNames numbers names → KnowsNames numbers grown → OnOk result (more ≡ grown) → OnErr result (more ≡ names) → KnowsNames numbers more
+known_after (Ok x) numbers names grown more before after ok err = subst (KnowsNames numbers) (sym ok) after
+known_after (Err e) numbers names grown more before after ok err = subst (KnowsNames numbers) (sym err) before
+
+-- terms that have no number get the next one
+pub new_terms : (names : Tables) (s : ℕ) (terms : Terms) → terms_number names s terms ≡ None
+    → with_new_terms names s terms ≡ with_terms names (record { space = s; terms = terms; nonce = nonce_for names s terms })
+new_terms names s terms unnamed =
+    ap (λ o. cond (is_some o) names (with_terms names (record { space = s; terms = terms; nonce = nonce_for names s terms }))) unnamed
+
+-- the numbers that are read off the name of terms are those of the terms
+pub named_ref : (names : Tables) (s : ℕ) (terms : Terms) (number : ℕ) (found : TermsRef) → terms_number names s terms ≡ Some number → found.terms ≡ number
+    → option_map (λ (name : TermsName). name.nonce) (numbered names.terms number) ≡ Some found.nonce
+    → numbered names.terms found.terms ≡ Some (record { space = s; terms = terms; nonce = found.nonce })
+named_ref names s terms number found is same nonce =
+    let its = named_terms names s terms number is in
+    let its_nonce : its.0.nonce ≡ found.nonce = let both : Some its.0.nonce ≡ Some found.nonce = sym (ap (option_map (λ (name : TermsName). name.nonce)) its.1) ∙ nonce in cc in
+    ap (numbered names.terms) same
+    ∙ (its.1 ∙ ap Some (terms_name_is its.0 s terms its.2 its.3 ∙ ap (λ n. record { space = s; terms = terms; nonce = n }) its_nonce))
+
+-- a copy of what was found
+pub copied_is : {T E : Type 0} (result : Result T E) (found : T) (o : Option T) → o ≡ Some found → IfOk result (λ copy. copy ≡ found) → IfOk result (λ copy. o ≡ Some copy)
+copied_is (Ok copy) found o is same = is ∙ ap Some (sym same)
+copied_is (Err e) found o is same = tt

@@ -19,4 +19,5 @@ pub mod Openings
 pub mod Preparing
 pub mod MoreNames
 pub mod AddSpace
+pub mod Gifts
 pub mod Booking

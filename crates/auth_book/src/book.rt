@@ -1,34 +1,63 @@
 //! A book that records in a ledger, and decides by its index. The journal is kept for those who read
-//! it; no reply is looked for in it.
+//! it; no reply is looked for in it, and a name that has its number is looked up in a map.
 
-ghost use Rattle.std.specs.Prelude.{◌≡◌, ◌≤◌, length, reverse};
+ghost use Rattle.std.specs.Prelude.{◌≡◌, ◌≤◌, ◌<◌, ◌*◌, IsTrue, Some, is_some, length, option_map, reverse};
+ghost use Rattle.spaces.specs.Sites.{numbered};
+ghost use Rattle.gift_log.specs.Gifts.{givings_of};
 ghost use Rattle.auth_book.specs.Indices.{StandsFor};
+ghost use Rattle.name_index.specs.Found.{KnowsNames};
+ghost use Rattle.name_index.proofs.Knowing.{KnowsNames-prop};
 
 use crate::decide::is_pending;
 use crate::index::BookIndex;
 use auth_events::{Call, Controller, Did, Entry, Gift, Journal, Ledger, Names, TermsRef};
 use auth_text::{Identity, NoMemory};
-use spaces::{Roster, Space, Terms};
+use gift_log::GiftLog;
+use name_index::NameIndex;
+use spaces::{Roster, Space, Terms, copy_identity};
 use std::alloc::Global;
 
-/// A book that decides by its index. The index stands for its journal.
+/// A book that decides by its index, and finds names by ordered maps. The index stands for its journal,
+/// and the maps know its names.
 #[derive(Drop)]
 pub struct AuthBook {
     ledger: Ledger,
     index: BookIndex,
+    numbers: NameIndex,
+    gifts: GiftLog,
     ghost rows: { length index.spaces.items ≡ length ledger.names.spaces },
     ghost stands: { ∥ StandsFor index ledger.roster ledger.names
         (reverse ledger.journal.entries) ∥₁ },
+    ghost knows: { KnowsNames numbers ledger.names } by { KnowsNames-prop numbers ledger.names },
+    ghost given: { gifts.givings ≡ givings_of ledger.journal.entries },
+    ghost room: { 64 * length ledger.roster.requests ≤ gifts.room },
+    ghost known: { length ledger.names.spaces < gifts.spaces },
+}
+
+/// The number of terms, with that of their nonce.
+fn terms_ref(names: &Names, terms: u32) -> TermsRef
+    requires { IsTrue (is_some (numbered names.now.terms terms)) }
+    ensures terms { result.terms ≡ terms }
+    ensures nonce { option_map (λ name. name.nonce) (numbered names.now.terms terms)
+        ≡ Some result.nonce }
+{
+    match names.terms(terms) {
+        Some(name) => TermsRef {
+            terms,
+            nonce: name.nonce,
+        },
+        None => unreachable!(),
+    }
 }
 
 impl AuthBook {
     ghost use Rattle.std.specs.Prelude.{◌≡◌, ◌≤◌, ◌++◌, ◌∷◌, [], length, reverse, IsTrue, IfOk, IfSome, Some, None, OnErr, OnOk, if◌then◌else◌};
     ghost use Rattle.spaces.specs.Sites.{numbered};
-    ghost use Rattle.auth_events.specs.Tables.{no_names, space_number, with_new_space};
+    ghost use Rattle.auth_events.specs.Tables.{is_home, no_names, space_number, terms_number, with_new_space};
     ghost use Rattle.auth_events.specs.Book as Book;
     ghost use Rattle.auth_events.specs.Ledgers.{told_of};
     ghost use Rattle.auth_book.specs.Fits.{made};
-    ghost use Rattle.auth_events.specs.Told.{MayNameSpace, is_pending, journal, names_told, told_space};
+    ghost use Rattle.auth_events.specs.Told.{MayNameSpace, MayNameTerms, is_pending, journal, names_told, told_space, told_terms};
 
     /// A book with no entries and no names. It takes the journal and the prompts at once; the cache and
     /// the directories of a partition are taken by the first `space_no` in it.
@@ -40,7 +69,15 @@ impl AuthBook {
     {
         let ledger = Ledger::new(alloc, roster)?;
         let index = BookIndex::new(alloc, roster)?;
-        Ok(AuthBook { ledger, index })
+        let numbers = NameIndex::new(alloc);
+        let mut gifts = GiftLog::new(alloc, 64 * roster.requests.len() as u32)?;
+        gifts.reserve_space(0)?;
+        Ok(AuthBook {
+            ledger,
+            index,
+            numbers,
+            gifts,
+        })
     }
 
     /// The index, which stands for the journal after every call.
@@ -83,12 +120,14 @@ impl AuthBook {
             .index
             .decide(self.ledger.roster(), self.ledger.names(), request, call);
         if !is_pending(did.reply) {
-            self.ledger.append(Entry {
+            let entry = Entry {
                 caller,
                 request,
                 call,
                 reply: did.reply,
-            });
+            };
+            self.ledger.append(entry);
+            self.gifts.tell(entry);
         }
         did
     }
@@ -111,9 +150,33 @@ impl AuthBook {
     {
         let next = self.ledger.names().spaces_len() + 1;
         self.index.prepare(next, &space.site().partition)?;
+        self.gifts.reserve_space(next)?;
+        self.numbers.note_space(self.ledger.names(), space)?;
         let number = self.ledger.space_no(caller, space)?;
         self.index.add_space(self.ledger.names());
         Ok(number)
+    }
+
+    /// Names terms that have no number. An `Err` changes nothing.
+    fn name_terms(&mut self, caller: u32, space: u32, terms: &Terms) -> Result<TermsRef, NoMemory>
+        requires home { IsTrue (is_home self.old.ledger.names space terms.now) }
+        requires few { MayNameTerms self.old.ledger.roster self.old.ledger.names space terms.now }
+        requires new { terms_number self.old.ledger.names space terms.now ≡ None }
+        ensures number { IfOk result (λ numbers.
+            numbered self.new.ledger.names.terms numbers.terms
+            ≡ Some (record { space = space; terms = terms.now; nonce = numbers.nonce })) }
+        ensures told { OnOk result
+            (told_of self.new.ledger.names self.new.ledger.made.items self.new.ledger.journal.entries
+            ≡ told_terms caller self.old.ledger.names
+            (told_of self.old.ledger.names self.old.ledger.made.items self.old.ledger.journal.entries)
+            space terms.now) }
+        ensures entries { self.new.ledger.journal ≡ self.old.ledger.journal }
+        ensures roster { self.new.ledger.roster ≡ self.old.ledger.roster }
+        ensures names { OnErr result (self.new.ledger.names ≡ self.old.ledger.names) }
+        ensures made { OnErr result (self.new.ledger.made.items ≡ self.old.ledger.made.items) }
+    {
+        self.numbers.note_terms(self.ledger.names(), space, terms)?;
+        self.ledger.terms_no(caller, space, terms)
     }
 }
 
@@ -152,14 +215,20 @@ impl Controller for AuthBook {
     }
 
     fn space_no(&mut self, caller: u32, space: &Space) -> Result<u32, NoMemory> {
-        match self.ledger.names().space_number(space) {
-            Some(_) => self.ledger.space_no(caller, space),
+        match self.numbers.space_number(self.ledger.names(), space)? {
+            Some(number) => Ok(number),
             None => self.name_space(caller, space),
         }
     }
 
     fn terms_no(&mut self, caller: u32, space: u32, terms: &Terms) -> Result<TermsRef, NoMemory> {
-        self.ledger.terms_no(caller, space, terms)
+        match self
+            .numbers
+            .terms_number(self.ledger.names(), space, terms)?
+        {
+            Some(number) => Ok(terms_ref(self.ledger.names(), number)),
+            None => self.name_terms(caller, space, terms),
+        }
     }
 
     fn text_no(&mut self, caller: u32, identity: &Identity) -> Result<u32, NoMemory> {
@@ -167,7 +236,11 @@ impl Controller for AuthBook {
     }
 
     fn identity_of(&self, gift: Gift) -> Result<Identity, NoMemory> {
-        self.ledger.identity_of(gift)
+        let (roster, names) = (self.ledger.roster(), self.ledger.names());
+        match self.gifts.identity(roster, names, gift) {
+            Some(found) => copy_identity(found),
+            None => unreachable!(),
+        }
     }
 
     fn terms_of(&self, terms: u32) -> Result<(Terms, u32), NoMemory> {

@@ -1,22 +1,31 @@
-use Rattle.std.proofs.Common.{◌∙◌, sym, subst}
-use Rattle.std.specs.Prelude.{reverse}
-use Rattle.spaces.specs.declared.roster.Roster.{Roster}
-use Rattle.auth_events.specs.Pages.{Pages}
-use Rattle.auth_book.specs.Indices.{StandsFor}
-use Rattle.auth_book.proofs.Booking.{lasts_after, lasts_with_terms}
+-- Terms that have a number are found by it.
+use Rattle.std.proofs.Common.{◌≡◌, ◌∙◌, Some, ap, sym, subst}
+use Rattle.std.specs.Prelude.{IsTrue, is_some, option_map}
+use Rattle.spaces.specs.Sites.{numbered}
+use Rattle.auth_events.specs.declared.names.TermsName.{TermsName}
+use Rattle.auth_events.specs.Tables.{Tables, terms_number}
+use Rattle.auth_events.proofs.Naming.{named_terms}
+use Rattle.name_index.specs.Found.{KnowsNames}
+use Rattle.auth_book.proofs.Booking.{named_ref}
 use Rattle.auth_book.proofs.book.AuthBookController.terms_no.Goals as goal
 
-pub invariant_of-self : goal.invariant_of-self
-invariant_of-self c =
+pub terms_number-requires : goal.terms_number-requires
+terms_number-requires c =
     let s = c.args.self.now in
-    let l = c.args.self.now.ledger in
-    let more = c.terms_no.new.self in
-    let lasts =
-    lasts_after l.roster l.names l.made.items l.journal.entries l.kept s.index s.stands c.terms_no.result more.names
-    (lasts_with_terms l.roster l.names l.made.items l.journal.entries l.kept s.index s.stands c.args.space c.args.terms.now more.names) c.terms_no.ensures.named c.terms_no.ensures.names in
-    (record {
-      rows = s.rows ∙ lasts.0;
-      stands =
-          subst (λ (journal : Pages). ∥ StandsFor s.index more.roster more.names (reverse journal.entries) ∥₁) (sym c.terms_no.ensures.entries)
-          (subst (λ (roster : Roster). ∥ StandsFor s.index roster more.names (reverse l.journal.entries) ∥₁) (sym c.terms_no.ensures.roster) lasts.1);
-    })
+    subst (KnowsNames s.numbers) (sym c.names.ensures) s.knows
+
+pub terms_ref-requires : goal.terms_ref-requires
+terms_ref-requires c =
+    let names = c.args.self.now.ledger.names in
+    let is : terms_number names c.args.space c.args.terms.now ≡ Some c.in-Some.number =
+    ap (λ (ns : Tables). terms_number ns c.args.space c.args.terms.now) (sym c.names.ensures) ∙ (sym c.in_ok-number.ensures ∙ c.in-Some.is) in
+    subst (λ (ns : Tables). IsTrue (is_some (numbered ns.terms c.in-Some.number))) (sym c.names-in-Some.ensures)
+    (ap is_some (named_terms names c.args.space c.args.terms.now c.in-Some.number is).1)
+
+pub returns-in-Some-clause-number : goal.returns-in-Some-clause-number
+returns-in-Some-clause-number c =
+    let names = c.args.self.now.ledger.names in
+    let is : terms_number names c.args.space c.args.terms.now ≡ Some c.in-Some.number =
+    ap (λ (ns : Tables). terms_number ns c.args.space c.args.terms.now) (sym c.names.ensures) ∙ (sym c.in_ok-number.ensures ∙ c.in-Some.is) in
+    named_ref names c.args.space c.args.terms.now c.in-Some.number c.terms_ref.result is c.terms_ref.ensures.terms
+    (subst (λ (ns : Tables). option_map (λ (name : TermsName). name.nonce) (numbered ns.terms c.in-Some.number) ≡ Some c.terms_ref.result.nonce) c.names-in-Some.ensures c.terms_ref.ensures.nonce)

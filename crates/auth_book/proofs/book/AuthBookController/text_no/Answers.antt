@@ -1,9 +1,11 @@
-use Rattle.std.proofs.Common.{◌∙◌, sym, subst}
+use Rattle.std.proofs.Common.{◌∙◌, length, ap, sym, subst, arith}
 use Rattle.std.specs.Prelude.{reverse}
 use Rattle.spaces.specs.declared.roster.Roster.{Roster}
 use Rattle.auth_events.specs.Pages.{Pages}
+use Rattle.auth_events.specs.Tables.{with_text}
+use Rattle.gift_log.specs.Gifts.{givings_of}
 use Rattle.auth_book.specs.Indices.{StandsFor}
-use Rattle.auth_book.proofs.Booking.{lasts_after, lasts_with_text}
+use Rattle.auth_book.proofs.Booking.{known_after, lasts_after, lasts_with_text}
 use Rattle.auth_book.proofs.book.AuthBookController.text_no.Goals as goal
 
 pub invariant_of-self : goal.invariant_of-self
@@ -19,4 +21,8 @@ invariant_of-self c =
       stands =
           subst (λ (journal : Pages). ∥ StandsFor s.index more.roster more.names (reverse journal.entries) ∥₁) (sym c.text_no.ensures.entries)
           (subst (λ (roster : Roster). ∥ StandsFor s.index roster more.names (reverse l.journal.entries) ∥₁) (sym c.text_no.ensures.roster) lasts.1);
+      knows = known_after c.text_no.result s.numbers l.names (with_text l.names c.args.identity.now) more.names s.knows s.knows c.text_no.ensures.named c.text_no.ensures.names;
+      given = s.given ∙ sym (ap (λ (journal : Pages). givings_of journal.entries) c.text_no.ensures.entries);
+      room = omega (arith, s.room, ap (λ (roster : Roster). length roster.requests) c.text_no.ensures.roster);
+      known = omega (arith, s.known, lasts.0);
     })
