@@ -21,7 +21,7 @@ use Rattle.trace_rule.specs.Moves.Move.{Closes}
 use Rattle.trace_rule.specs.Traces.{is_end, can_be}
 use Rattle.request_machine.specs.declared.holding.Holding.{Holding}
 use Rattle.request_machine.specs.declared.stage.Stage.{Stage}
-use Rattle.request_machine.specs.declared.stage.Stage.TheVariants.{Reject as Rejecting, Read, Choose, Close}
+use Rattle.request_machine.specs.declared.stage.Stage.TheVariants.{Reject as Rejecting, NameRenewal, Read, Choose, Close}
 use Rattle.request_machine.specs.Kept.{IsKept, Kept, Ties, IsHeld, held_kept, is_after_end, gift_by_path, note_call}
 use Rattle.request_machine.specs.Told.{unless_it}
 use Rattle.request_machine.proofs.Quiet.{IsNext, same_held}
@@ -123,6 +123,24 @@ to_choose s m link reply x h same is may held_x undecided few t =
     at None u = refl
     at (Some y) u = ap (decided s (Replied link reply ∷ m.past) link reply.stays x (held_kept y)) u
 
+-- the challenge that decides renews or rejects what is held
+pub moves_decided : (s : Setting) (m : Kept) (link : ℕ) (reply : Reply) (t : Target) (h : Holding) (offered : Offer) → challenged s reply ≡ Some t → IsHeld s m.past t (Some h) → deciding s reply t (held_kept h) ≡ Some (Offering offered)
+    → nat_le 17 (m.rounds + 1) ≡ false → Ties s m → move s (Replied link reply ∷ m.past) ≡ renewed s (held_kept h) offered.stale offered.terms
+moves_decided s m link reply x h offered is held_x decides few t =
+    moved s m link reply x (Some h) false is held_x few t ∙ ap (decided s (Replied link reply ∷ m.past) link reply.stays x (held_kept h)) decides
+
+-- where it is stale, its terms are to be named
+pub to_renew : (s : Setting) (m : Kept) (link : ℕ) (reply : Reply) (t : Target) (h : Holding) → m.stage ≡ Read link → challenged s reply ≡ Some t → IsTrue (can_be reply) → IsHeld s m.past t (Some h) → Ties s m
+    → IsNext s (Replied link reply ∷ m.past) (NameRenewal t h.gift)
+to_renew s m link reply x h same is may held_x t =
+    let no_end : list_any is_end m.past ≡ false = t.ended ∙ ap is_after_end same in
+    record {
+      stands = (reads_past s m link (Replied link reply) same t (refl, may), held_x.of_target, is);
+      ended = no_end;
+      may_stop = rw no_end refl;
+      open_still = only_end s m (Read link) same t (λ n e. e);
+    }
+
 -- a challenge that isn't stale rejects what is held
 pub to_reject : (s : Setting) (m : Kept) (link : ℕ) (reply : Reply) (t : Target) (h : Holding) (offered : Offer) → m.stage ≡ Read link → challenged s reply ≡ Some t → IsTrue (can_be reply) → IsHeld s m.past t (Some h)
     → deciding s reply t (held_kept h) ≡ Some (Offering offered) → renewed s (held_kept h) offered.stale offered.terms ≡ rejects (held_kept h) → nat_le 17 (m.rounds + 1) ≡ false → Ties s m → IsNext s (Replied link reply ∷ m.past) (Rejecting t h.gift)
@@ -131,10 +149,7 @@ to_reject s m link reply x h offered same is may held_x decides fresh few t =
     record {
       stands = (
         reads_past s m link (Replied link reply) same t (refl, may),
-        ap (carried_out s (Replied link reply ∷ m.past))
-            (moved s m link reply x (Some h) false is held_x few t
-            ∙ ap (decided s (Replied link reply ∷ m.past) link reply.stays x (held_kept h)) decides
-            ∙ fresh),
+        ap (carried_out s (Replied link reply ∷ m.past)) (moves_decided s m link reply x h offered is held_x decides few t ∙ fresh),
         held_x.of_target,
         is,
       );

@@ -1,5 +1,5 @@
 -- A challenge of a target, by what it decides on what is held for it.
-use Rattle.std.proofs.Common.{◌≡◌, ◌==◌, ℕ, ◌+◌, Bool, true, false, ◌&&◌, nat_le, List, ◌∷◌, Option, Some, None, refl, sym, if◌then◌else◌, IsTrue, IfSome, subst, is_some, is_none}
+use Rattle.std.proofs.Common.{◌≡◌, ◌==◌, ℕ, ◌+◌, Bool, true, false, ◌&&◌, nat_le, List, ◌∷◌, Option, Some, None, refl, sym, if◌then◌else◌, IsTrue, IfSome, subst, is_some, is_none, option_map, ap, ◌∙◌}
 use Rattle.std.proofs.lemmas.Bool.{false≢true}
 use Rattle.spaces.specs.declared.site.Target.{Target}
 use Rattle.spaces.specs.declared.site.Target.TheVariants.{Server, Proxy, Socks}
@@ -13,18 +13,42 @@ use Rattle.trace_rule.specs.Settings.{Setting, is_proxied}
 use Rattle.trace_rule.specs.Challenges.{Offer, challenged, challenges_target}
 use Rattle.trace_rule.specs.Holding.{Held, Decision, deciding}
 use Rattle.trace_rule.specs.Holding.Decision.{Offering}
-use Rattle.trace_rule.specs.Moves.{renewed, rejects}
+use Rattle.auth_events.specs.declared.journal.Call.TheVariants.{Renew}
+use Rattle.trace_rule.specs.Moves.{renewed, rejects, known}
+use Rattle.trace_rule.specs.Moves.Want.{Calls}
+use Rattle.trace_rule.specs.Moves.Move.{Goes}
 use Rattle.trace_rule.specs.Traces.{can_be}
 use Rattle.request_machine.specs.declared.holding.Holding.{Holding}
-use Rattle.request_machine.specs.declared.stage.Stage.TheVariants.{Reject as Rejecting, Read, Choose, Close}
-use Rattle.request_machine.specs.Kept.{Kept, Ties, IsHeld, held_kept}
+use Rattle.request_machine.specs.declared.stage.Stage.TheVariants.{Reject as Rejecting, NameRenewal, Read, Choose, Close}
+use Rattle.request_machine.specs.Kept.{Kept, Ties, IsHeld, IsStale, held_kept}
+use Rattle.request_machine.specs.Chosen.{stale_terms}
 use Rattle.request_machine.specs.Changed.{holding}
-use Rattle.request_machine.specs.Chosen.{IsUndecided, IsDecided, IsLast, is_renewal}
 use Rattle.request_machine.specs.Told.{held_rejected, held_last, unless_it}
-use Rattle.request_machine.proofs.Challenged.{challenge_ties, challenges_it, held_elsewhere, held_challenged, kept_decided, nothing_held, to_choose, to_reject, to_rounds}
+use Rattle.request_machine.proofs.Challenged.{challenge_ties, challenges_it, held_elsewhere, held_challenged, kept_decided, nothing_held, to_choose, to_reject, to_renew, to_rounds, moves_decided}
+use Rattle.request_machine.proofs.Reading.{read_unnamed}
+
+-- the reply challenges the target, and decides nothing on what is held for it
+pub record IsUndecided (s : Setting) (m : Kept) (reply : Reply) (t : Target) : Type 0 where
+  pub target : challenged s reply ≡ Some t
+  pub undecided : IfSome (holding m t) (λ h. deciding s reply t (held_kept h) ≡ None)
+
+-- a challenge of the target decides on what is held
+pub record IsDecided (s : Setting) (m : Kept) (reply : Reply) (t : Target) (h : Holding) (offered : Offer) : Type 0 where
+  pub target : challenged s reply ≡ Some t
+  pub held : holding m t ≡ Some h
+  pub decides : deciding s reply t (held_kept h) ≡ Some (Offering offered)
+
+-- it is stale, and has terms
+abbrev pub is_renewal : Offer → Bool
+is_renewal offered = offered.stale && is_some offered.terms
+
+-- the reply challenges the target, and decides on what is held for it, or doesn't
+pub record IsLast (s : Setting) (m : Kept) (reply : Reply) (t : Target) (kept : Bool) : Type 0 where
+  pub target : challenged s reply ≡ Some t
+  pub decides : IfSome (holding m t) (λ h. is_some (deciding s reply t (held_kept h)) ≡ kept)
 
 -- no reply challenges a SOCKS proxy
-no_socks : (s : Setting) (reply : Reply) → challenged s reply ≡ Some Socks → ⊥
+pub no_socks : (s : Setting) (reply : Reply) → challenged s reply ≡ Some Socks → ⊥
 no_socks s reply is = at (reply.code == 401) (reply.code == 407 && is_proxied s) is
   where
     at : (a b : Bool) → (if a then Some Server else (if b then Some Proxy else None)) ≡ Some Socks → ⊥
@@ -108,17 +132,36 @@ last_ties s m link reply Server kept same may last is t =
     (to_rounds s m link reply Server m.server same is.target may t.server last t)
 last_ties s m link reply Socks kept same may last is t = absurd (no_socks s reply is.target)
 
--- where nothing is held nothing decides
-pub free_undecided : (s : Setting) (m : Kept) (reply : Reply) (t : Target) → is_none (holding m t) ≡ true → challenged s reply ≡ Some t → IsUndecided s m reply t
-free_undecided s m reply t free is = record { target = is; undecided = at (holding m t) free }
+-- with terms it renews
+renews : (s : Setting) (h : Held) (offered : Offer) (terms : Terms) → stale_terms offered ≡ Some terms → renewed s h offered.stale offered.terms ≡ known (s.terms_no h.gift.space terms) (λ n. Goes (Calls (Renew h.gift n)))
+renews s h offered terms = at offered.stale offered.terms
   where
-    at : (o : Option Holding) → is_none o ≡ true → IfSome o (λ h. deciding s reply t (held_kept h) ≡ None)
-    at None e = tt
-    at (Some h) e = absurd (false≢true e)
+    at : (b : Bool) (o : Option Terms) → (if b then o else None) ≡ Some terms → renewed s h b o ≡ known (s.terms_no h.gift.space terms) (λ n. Goes (Calls (Renew h.gift n)))
+    at true o e = ap (renewed s h true) e
+    at false o e = absurd (cc)
 
-pub free_last : (s : Setting) (m : Kept) (reply : Reply) (t : Target) → is_none (holding m t) ≡ true → challenged s reply ≡ Some t → IsLast s m reply t false
-free_last s m reply t free is = record { target = is; decides = at (holding m t) free }
-  where
-    at : (o : Option Holding) → is_none o ≡ true → IfSome o (λ h. is_some (deciding s reply t (held_kept h)) ≡ false)
-    at None e = tt
-    at (Some h) e = absurd (false≢true e)
+-- a stale challenge: its terms are to be named, for the gift that is held
+stale_next : (s : Setting) (m : Kept) (link : ℕ) (reply : Reply) (t : Target) (h : Holding) (offered : Offer) (terms : Terms) → m.stage ≡ Read link → IsTrue (can_be reply) → nat_le 17 (m.rounds + 1) ≡ false → challenged s reply ≡ Some t → IsHeld s m.past t (Some h)
+    → deciding s reply t (held_kept h) ≡ Some (Offering offered) → stale_terms offered ≡ Some terms → Ties s m → IsStale s (Replied link reply ∷ m.past) (Some terms) h.gift
+stale_next s m link reply t h offered terms same may few is held_t decides stale ties = record {
+  terms = terms;
+  are_unnamed = refl;
+  moves = moves_decided s m link reply t h offered is held_t decides few ties ∙ renews s (held_kept h) offered terms stale;
+}
+
+pub stale_ties : (s : Setting) (m : Kept) (link : ℕ) (reply : Reply) (t : Target) (h : Holding) (offered : Offer) (terms : Terms) → m.stage ≡ Read link → IsTrue (can_be reply) → nat_le 17 (m.rounds + 1) ≡ false
+    → IsDecided s m reply t h offered → stale_terms offered ≡ Some terms → Ties s m
+    → Ties s (record m { past = Replied link reply ∷ m.past; stage = NameRenewal t h.gift; rounds = m.rounds + 1; code = reply.code; unnamed_terms = Some terms })
+stale_ties s m link reply Proxy h offered terms same may few is stale t =
+    let held_it : IsHeld s m.past Proxy (Some h) = subst (λ x. IsHeld s m.past Proxy x) is.held t.proxy in
+    challenge_ties s (record m { unnamed_terms = Some terms }) link reply Proxy (NameRenewal Proxy h.gift) m.proxy m.server same is.target (read_unnamed s m link (Some terms) same t)
+    (stale_next s m link reply Proxy h offered terms same may few is.target held_it is.decides stale t)
+    (decided_held s m.past link reply Proxy m.proxy h offered (challenges_it s reply Proxy Proxy is.target) is.held is.decides t.proxy) (held_elsewhere s m.past link reply Proxy Server m.server is.target refl t.server)
+    (to_renew s m link reply Proxy h same is.target may held_it t)
+stale_ties s m link reply Server h offered terms same may few is stale t =
+    let held_it : IsHeld s m.past Server (Some h) = subst (λ x. IsHeld s m.past Server x) is.held t.server in
+    challenge_ties s (record m { unnamed_terms = Some terms }) link reply Server (NameRenewal Server h.gift) m.proxy m.server same is.target (read_unnamed s m link (Some terms) same t)
+    (stale_next s m link reply Server h offered terms same may few is.target held_it is.decides stale t)
+    (held_elsewhere s m.past link reply Server Proxy m.proxy is.target refl t.proxy) (decided_held s m.past link reply Server m.server h offered (challenges_it s reply Server Server is.target) is.held is.decides t.server)
+    (to_renew s m link reply Server h same is.target may held_it t)
+stale_ties s m link reply Socks h offered terms same may few is stale t = absurd (no_socks s reply is.target)

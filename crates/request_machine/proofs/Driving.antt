@@ -20,7 +20,7 @@ use Rattle.request_machine.specs.Renewals.{stage_behind}
 use Rattle.request_machine.specs.declared.stage.Piece.{Piece}
 use Rattle.request_machine.specs.declared.holding.Holding.{Holding}
 use Rattle.request_machine.specs.Changed.{holding}
-use Rattle.request_machine.specs.Needs.{need_of}
+use Rattle.request_machine.specs.Needs.{need_at, need_of}
 use Rattle.request_machine.specs.Kept.{Kept, IsLinkOpen}
 use Rattle.request_machine.specs.Turns.{next_link, IsLinkKept, opened_without, is_asking, turns_at, turns_left}
 use Rattle.request_machine.specs.Linked.{Way, way, goes_on, is_away, is_ending, Line, line, IsLinkedOn, IsLinked, nth_link, IsOnlyLink, AreDialsOf, of_others, IsDriven}
@@ -378,3 +378,18 @@ pub behind_ends : (before : Way) (t : Target) (c : Closing) → IsTrue (goes_on 
 behind_ends before Proxy c = refl
 behind_ends before Server c = refl
 behind_ends before Socks c = refl
+
+-- and it is nearer
+behind_at : (m n : Kept) (t : Target) (c : Closing) → n.stage ≡ stage_behind t c → is_asking m ≡ false → m.stage ≡ NextNonce t c → turns_left n < turns_left m
+behind_at m n Proxy c now idle was =
+    let after : turns_left n ≡ 1 = ap (λ st. if is_some (need_at n st) then 0 else turns_at st n.is_dialed) now in
+    let before : turns_left m ≡ 2 = ap (λ st. if is_some (need_at m st) then 0 else turns_at st m.is_dialed) was in
+    omega (arith, after, before)
+behind_at m n Server c now idle was = asks_nearer m n (ap (λ st. is_some (need_at n st)) now) idle
+behind_at m n Socks c now idle was = asks_nearer m n (ap (λ st. is_some (need_at n st)) now) idle
+
+pub behind_nearer : (m n : Kept) (t : Target) (c : Closing) → n.stage ≡ stage_behind t c → m.stage ≡ NextNonce t c → turns_left n < turns_left m
+behind_nearer m n t c now was = behind_at m n t c now (ap (λ st. is_some (need_at m st)) was) was
+
+pub next_nearer : (m n : Kept) (t : Target) (c : Closing) → is_asking n ≡ true → m.stage ≡ NextNonce t c → turns_left n < turns_left m
+next_nearer m n t c asks was = asks_nearer m n asks (ap (λ st. is_some (need_at m st)) was)

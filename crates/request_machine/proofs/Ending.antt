@@ -1,5 +1,5 @@
 -- How a request closes.
-use Rattle.std.proofs.Common.{◌≡◌, ℕ, ◌+◌, Bool, true, false, not, ◌&&◌, List, [], ◌∷◌, ◌++◌, Option, Some, None, refl, sym, ap, ◌∙◌, zero-add, if◌then◌else◌, IsTrue, subst, option_map, option_and_then, unwrap_or, is_some, drop, map, nat_le, arith, zero, suc}
+use Rattle.std.proofs.Common.{◌≡◌, ℕ, ◌+◌, Bool, true, false, not, ◌&&◌, List, [], ◌∷◌, ◌++◌, Option, Some, None, refl, sym, ap, ◌∙◌, zero-add, if◌then◌else◌, IsTrue, subst, option_map, option_and_then, unwrap_or, is_some, is_none, drop, map, nat_le, arith, zero, suc}
 use Rattle.std.proofs.Math.Numerals.{add-one}
 use Rattle.std.specs.List.{list_any}
 use Rattle.spaces.specs.declared.site.Target.{Target}
@@ -16,21 +16,21 @@ use Rattle.auth_runs.specs.declared.event.Event.{Event}
 use Rattle.auth_runs.specs.declared.event.Event.TheVariants.{Called, WriteFailed, ReadFailed, Replied, Broken, Ended}
 use Rattle.auth_runs.specs.declared.event.Outcome.{Outcome}
 use Rattle.auth_runs.specs.declared.event.Outcome.TheVariants.{Answered, Refused, BadReply, LinkFailed, ProviderFailed, PromptFailed, NoMemory}
-use Rattle.trace_rule.specs.Settings.{Setting, is_by_path, scheme_is}
+use Rattle.trace_rule.specs.Settings.{Setting, is_by_path}
 use Rattle.trace_rule.specs.Challenges.{challenged, challenges_target}
-use Rattle.trace_rule.specs.NextNonces.{next, first_next}
-use Rattle.spaces.specs.declared.space.Scheme.TheVariants.{Digest}
 use Rattle.trace_rule.specs.Holding.{Held, held, held_replied, carried}
 use Rattle.trace_rule.specs.Moves.{move, replied, rounds, is_answered}
-use Rattle.trace_rule.specs.Closings.{renewal, renewal_of, renewal_for, renewals, notes, want, carried_out, closings, closings_made, next_closing, note_for, note_of, is_challenged}
+use Rattle.trace_rule.specs.Closings.{renewal_for, notes, want, carried_out, closings, closings_made, next_closing, note_for, note_of, is_challenged}
 use Rattle.trace_rule.specs.Moves.Want.{Calls, Reads}
 use Rattle.trace_rule.specs.Moves.Move.{Closes}
 use Rattle.trace_rule.specs.Traces.{IsPast, Follows, is_end, suits, can_be}
 use Rattle.request_machine.specs.declared.stage.Closing.{Closing}
-use Rattle.request_machine.specs.declared.stage.Stage.TheVariants.{Read, Close, End, Over}
-use Rattle.request_machine.specs.Kept.{Kept, Ties, IsStage, is_after_end, gift_by_path, note_call, calls_left}
+use Rattle.request_machine.specs.declared.stage.Stage.{Stage}
+use Rattle.request_machine.specs.declared.stage.Stage.TheVariants.{Read, NextNonce, Close, End, Over}
+use Rattle.request_machine.specs.Kept.{Kept, IsKept, IsCarriedStill, Ties, IsStage, is_after_end, gift_by_path, note_call, calls_left, closings_left, renewals_from}
+use Rattle.request_machine.specs.Renewals.{stage_answered}
 use Rattle.request_machine.specs.Told.{closing_by}
-use Rattle.request_machine.proofs.Quiet.{quiet_ties, same_held, note_still, end_still, outcome_still, write_failed_still, read_failed_still, broken_still}
+use Rattle.request_machine.proofs.Quiet.{IsNext, quiet_ties, same_held, note_still, end_still, outcome_still, write_failed_still, read_failed_still, broken_still}
 use Rattle.request_machine.proofs.Prompts.{open_behind}
 use Rattle.request_machine.proofs.Replies.{no_follow}
 use Rattle.request_machine.proofs.Sending.{only_end}
@@ -98,62 +98,105 @@ joined None (Some b) = refl
 joined (Some a) None = refl
 joined (Some a) (Some b) = refl
 
--- nothing is renewed where the reply has no infos
-no_renewal : (s : Setting) (whole : List Event) (t : Target) (h : Option Held) → next whole t ≡ None → unwrap_or (option_map (renewal_of s whole t) h) [] ≡ []
-no_renewal s whole t None none = refl
-no_renewal s whole t (Some h) none = ap (λ (o : Option (List ℕ)). if scheme_is s h.gift.space Digest then unwrap_or (option_map (λ nonce. renewal s h nonce ∷ []) o) [] else []) none ∙ at (scheme_is s h.gift.space Digest)
-  where
-    at : (b : Bool) → ◌≡◌ {A = List (Option Call)} (if b then [] else []) []
-    at true = refl
-    at false = refl
+-- the reply is an answer
+answers : (s : Setting) (past : List Event) (link : ℕ) (reply : Reply) → challenged s reply ≡ None → is_answered s (Replied link reply ∷ past) ≡ true
+answers s past link reply none = ap is_none none
 
-renews_none : (s : Setting) (whole : List Event) (a b : List (Option Call)) → a ≡ [] → b ≡ [] → (if is_answered s whole && nat_le (rounds s whole) 14 then a ++ b else []) ≡ []
-renews_none s whole a b first second = ap (λ x. if is_answered s whole && nat_le (rounds s whole) 14 then x ++ b else []) first ∙ ap (λ x. if is_answered s whole && nat_le (rounds s whole) 14 then x else []) second ∙ at (is_answered s whole && nat_le (rounds s whole) 14)
-  where
-    at : (c : Bool) → ◌≡◌ {A = List (Option Call)} (if c then [] else []) []
-    at true = refl
-    at false = refl
+-- an answer makes no round
+no_round : (s : Setting) (m : Kept) (link : ℕ) (reply : Reply) → challenged s reply ≡ None → Ties s m → rounds s (Replied link reply ∷ m.past) ≡ m.rounds
+no_round s m link reply none t = ap (λ (c : Option Target). (if is_some c then 1 else 0) + rounds s m.past) none ∙ zero-add (rounds s m.past) ∙ t.rounds
 
-pub answered_ties : (s : Setting) (m : Kept) (link : ℕ) (reply : Reply) → m.stage ≡ Read link → challenged s reply ≡ None → IsTrue (can_be reply) → reply.proxy_info ≡ [] → reply.server_info ≡ [] → Ties s m
-    → Ties s (record m { past = Replied link reply ∷ m.past; code = reply.code; stage = Close (record { outcome = Answered reply.code; proxy = m.noted_proxy; server = m.noted_server }) })
-answered_ties s m link reply same none may no_proxy no_server t =
-    let no_end : list_any is_end m.past ≡ false = t.ended ∙ ap is_after_end same in
+noted_by : (s : Setting) (m : Kept) (link : ℕ) (reply : Reply) → challenged s reply ≡ None → Ties s m
+    → notes s (Replied link reply ∷ m.past) (Answered reply.code) ++ CallEnd ∷ [] ≡ calls_left (record { outcome = Answered reply.code; proxy = m.noted_proxy; server = m.noted_server })
+noted_by s m link reply none t =
     let whole : List Event = Replied link reply ∷ m.past in
-    let moved : move s whole ≡ Closes (Answered reply.code) = ap (λ (c : Option Target). replied s whole link reply c m.past) none in
     let first : note_for s whole Proxy ≡ note_call m.noted_proxy [] = notes_for s whole Proxy (carried s m.past Proxy) (unchallenged s reply Proxy none) ∙ ap (λ g. note_call g []) t.noted_proxy in
     let second : note_for s whole Server ≡ note_call m.noted_server [] = notes_for s whole Server (carried s m.past Server) (unchallenged s reply Server none) ∙ ap (λ g. note_call g []) t.noted_server in
-    let renews : renewals s whole (Answered reply.code) ≡ [] =
-    renews_none s whole (renewal_for s whole Proxy) (renewal_for s whole Server)
-    (no_renewal s whole Proxy (carried s m.past Proxy) (ap first_next no_proxy)) (no_renewal s whole Server (carried s m.past Server) (ap first_next no_server)) in
-    let left : closings s whole (Answered reply.code) ≡ map Some (note_call m.noted_proxy (note_call m.noted_server (CallEnd ∷ []))) =
-    ap (λ calls. calls ++ map Some (notes s whole (Answered reply.code) ++ CallEnd ∷ [])) renews
-    ∙ ap (λ calls. map Some ((calls ++ note_for s whole Server) ++ CallEnd ∷ [])) first ∙ ap (λ calls. map Some ((note_call m.noted_proxy [] ++ calls) ++ CallEnd ∷ [])) second
-    ∙ ap (map Some) (joined m.noted_proxy m.noted_server) in
-    record {
-      same_number = t.same_number;
-      same_seed = t.same_seed;
-      passes_over = t.passes_over;
-      route = t.route;
-      stage = (reads_past s m link (Replied link reply) same t (refl, may), moved, ap (λ n. drop n (closings s whole (Answered reply.code))) (only_end s m (Read link) same t (λ n e. e)) ∙ left);
-      proxy = same_held s m.past (Replied link reply) Proxy m.proxy (still_held s reply Proxy (unchallenged s reply Proxy none) (held s m.past Proxy)) t.proxy;
-      server = same_held s m.past (Replied link reply) Server m.server (still_held s reply Server (unchallenged s reply Server none) (held s m.past Server)) t.server;
-      drawn_proxy = t.drawn_proxy;
-      drawn_server = t.drawn_server;
-      noted_proxy = t.noted_proxy;
-      noted_server = t.noted_server;
-      links = t.links;
-      heads = t.heads;
-      code = refl;
-      rounds = ap (λ (c : Option Target). (if is_some c then 1 else 0) + rounds s m.past) none ∙ zero-add (rounds s m.past) ∙ t.rounds;
-      is_dialed = t.is_dialed;
-      has_lost = t.has_lost;
-      has_none = t.has_none;
-      ended = no_end;
-      may_stop = rw no_end refl;
-      prompt = open_behind m.past (Replied link reply) (λ p. refl) ∙ t.prompt;
-      open_still = tt;
-      kept = tt;
-    }
+    ap (λ calls. (calls ++ note_for s whole Server) ++ CallEnd ∷ []) first ∙ ap (λ calls. (note_call m.noted_proxy [] ++ calls) ++ CallEnd ∷ []) second ∙ joined m.noted_proxy m.noted_server
+
+-- the calls at the end of an answered request
+left_by : (s : Setting) (m : Kept) (link : ℕ) (reply : Reply) (few : Bool) → m.stage ≡ Read link → challenged s reply ≡ None → nat_le m.rounds 14 ≡ few → Ties s m
+    → closings_left s (Replied link reply ∷ m.past) (Answered reply.code)
+    ≡ (if few then renewals_from s (Replied link reply ∷ m.past) Proxy else []) ++ map Some (calls_left (record { outcome = Answered reply.code; proxy = m.noted_proxy; server = m.noted_server }))
+left_by s m link reply few same none counted t =
+    let whole : List Event = Replied link reply ∷ m.past in
+    let renewed : List (Option Call) = renewals_from s whole Proxy in
+    let ends : List (Option Call) = map Some (notes s whole (Answered reply.code) ++ CallEnd ∷ []) in
+    ap (λ n. drop n (closings s whole (Answered reply.code))) (only_end s m (Read link) same t (λ n e. e))
+    ∙ ap (λ b. (if b && nat_le (rounds s whole) 14 then renewed else []) ++ ends) (answers s m.past link reply none)
+    ∙ ap (λ n. (if nat_le n 14 then renewed else []) ++ ends) (no_round s m link reply none t)
+    ∙ ap (λ b. (if b then renewed else []) ++ ends) counted
+    ∙ ap (λ calls. (if few then renewed else []) ++ map Some calls) (noted_by s m link reply none t)
+
+-- the reply is an answer, and the request stands so behind it
+answered_as : (s : Setting) (m : Kept) (link : ℕ) (reply : Reply) (stage : Stage) → challenged s reply ≡ None → Ties s m → IsKept s (record m { past = Replied link reply ∷ m.past; code = reply.code; stage = stage }) stage
+    → IsNext s (Replied link reply ∷ m.past) stage → Ties s (record m { past = Replied link reply ∷ m.past; code = reply.code; stage = stage })
+answered_as s m link reply stage none t kept next = record {
+  same_number = t.same_number;
+  same_seed = t.same_seed;
+  passes_over = t.passes_over;
+  route = t.route;
+  stage = next.stands;
+  proxy = same_held s m.past (Replied link reply) Proxy m.proxy (still_held s reply Proxy (unchallenged s reply Proxy none) (held s m.past Proxy)) t.proxy;
+  server = same_held s m.past (Replied link reply) Server m.server (still_held s reply Server (unchallenged s reply Server none) (held s m.past Server)) t.server;
+  drawn_proxy = t.drawn_proxy;
+  drawn_server = t.drawn_server;
+  noted_proxy = t.noted_proxy;
+  noted_server = t.noted_server;
+  links = t.links;
+  heads = t.heads;
+  code = refl;
+  rounds = no_round s m link reply none t;
+  is_dialed = t.is_dialed;
+  has_lost = t.has_lost;
+  has_none = t.has_none;
+  ended = next.ended;
+  may_stop = next.may_stop;
+  prompt = open_behind m.past (Replied link reply) (λ p. refl) ∙ t.prompt;
+  open_still = next.open_still;
+  kept = kept;
+}
+
+-- the next nonces are looked for, unless there were too many rounds
+pub answered_ties : (s : Setting) (m : Kept) (link : ℕ) (reply : Reply) → m.stage ≡ Read link → challenged s reply ≡ None → IsTrue (can_be reply) → Ties s m
+    → Ties s (record m { past = Replied link reply ∷ m.past; code = reply.code; stage = stage_answered m.rounds (record { outcome = Answered reply.code; proxy = m.noted_proxy; server = m.noted_server }) })
+answered_ties s m link reply same none may t = go (nat_le m.rounds 14) refl
+  where
+    no_end : list_any is_end m.past ≡ false
+    no_end = t.ended ∙ ap is_after_end same
+
+    moved : move s (Replied link reply ∷ m.past) ≡ Closes (Answered reply.code)
+    moved = ap (λ (c : Option Target). replied s (Replied link reply ∷ m.past) link reply c m.past) none
+
+    past : IsPast s (Replied link reply ∷ m.past)
+    past = reads_past s m link (Replied link reply) same t (refl, may)
+
+    at : IsStage s m.past (Read link)
+    at = subst (IsStage s m.past) same t.stage
+
+    still : (x : Target) → IsCarriedStill s (Replied link reply ∷ m.past) x
+    still x = record { link = link; same = still_held s reply x (unchallenged s reply x none) (held s m.past x) ∙ at.2 x }
+
+    go : (few : Bool) → nat_le m.rounds 14 ≡ few
+        → Ties s (record m {
+          past = Replied link reply ∷ m.past;
+          code = reply.code;
+          stage = (if few then NextNonce Proxy (record { outcome = Answered reply.code; proxy = m.noted_proxy; server = m.noted_server }) else Close (record { outcome = Answered reply.code; proxy = m.noted_proxy; server = m.noted_server }));
+        })
+    go true counted =
+        answered_as s m link reply (NextNonce Proxy (record { outcome = Answered reply.code; proxy = m.noted_proxy; server = m.noted_server })) none t (subst (IsKept s m) same t.kept) (record {
+          stands = (record { is_past = past; closes = moved; answered = answers s m.past link reply none }, left_by s m link reply true same none counted t, (still Proxy, still Server));
+          ended = no_end;
+          may_stop = rw no_end refl;
+          open_still = tt;
+        })
+    go false counted =
+        answered_as s m link reply (Close (record { outcome = Answered reply.code; proxy = m.noted_proxy; server = m.noted_server })) none t tt (record {
+          stands = (past, moved, left_by s m link reply false same none counted t);
+          ended = no_end;
+          may_stop = rw no_end refl;
+          open_still = tt;
+        })
 
 -- THE CALLS AT THE END
 

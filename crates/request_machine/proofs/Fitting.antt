@@ -24,6 +24,6 @@ fit_read link method streams old new (Whole reply) fit last_code read =
     let shown : IsShown text reply = (method, (read_on link (read.front ++ read.last)).ended, read.shows.0, read.shows.1) in
     both (is_final reply.code) (values_fit reply) (last_code text reply shown) (fit text reply shown)
 fit_read link method streams old new (Broken fault) fit last_code read = tt
-fit_read link method streams old new Lost fit last_code read = tt
+fit_read link method streams old new Lost fit last_code read = read.shows
 fit_read link method streams old new (Failed count) fit last_code read = tt
 fit_read link method streams old new NoMemory fit last_code read = tt

@@ -60,12 +60,12 @@ draw_wanted s past t (Some h) count is ready counted =
     counts named true = refl
     counts named false = refl
 
-    at : (digest free : Bool) (named : Option NamedTerms) → IfSome named (λ n. s.terms_of h.terms ≡ Some (terms_kept h n)) → digest ≡ is_some named
+    at : (digest free : Bool) (named : Option NamedTerms) → IfSome named (λ n. s.terms_of h.terms ≡ Some (terms_kept h n)) → (digest ≡ true → IsSome named)
         → draw_by t digest free (s.terms_of h.terms) ≡ (if free then option_map (Draws t) (if digest then option_and_then counted_nonce named else None) else None)
     at false true named known same = refl
     at false false named known same = refl
     at true false named known same = refl
-    at true true None known same = absurd (false≢true (sym same))
+    at true true None known same = absurd (false≢true (same refl))
     at true true (Some named) known same = ap (λ o. draw_by t true true o) known ∙ counts named (has_count named.terms.qop)
 
 abbrev go_of : Option Want → Option Want → Option Want → Option Want → Want → Want

@@ -74,11 +74,11 @@ field_is_told s m request t count (Some h) same ties is ready counted =
     ∙ ap (λ login. field_by s m.past t (held_kept h) false (scheme_told h.space Digest) login (s.terms_of h.terms)) (identity_held h.identity (s.identity_of h.gift) is.is_known.identity ready.identity)
     ∙ at (scheme_told h.space Digest) h.identity h.named is.is_known.named ready.named
   where
-    at : (digest : Bool) (login : Option Login) (named : Option NamedTerms) → IfSome named (λ n. s.terms_of h.terms ≡ Some (terms_kept h n)) → digest ≡ is_some named
+    at : (digest : Bool) (login : Option Login) (named : Option NamedTerms) → IfSome named (λ n. s.terms_of h.terms ≡ Some (terms_kept h n)) → (digest ≡ true → IsSome named)
         → field_by s m.past t (held_kept h) false digest login (s.terms_of h.terms)
         ≡ (if digest then option_and_then (λ n. option_map (λ l. digest_told m request t count l n) login) named else option_map credentials login)
     at false login named known is = refl
-    at true login None known is = absurd (false≢true (sym is))
+    at true login None known is = absurd (false≢true (is refl))
     at true None (Some named) known is = ap (λ o. option_and_then (λ (n : TermsName). option_map (digest_field s m.past t n.terms) None) o) known
     at true (Some login) (Some named) known is =
         ap (λ o. option_and_then (λ (n : TermsName). option_map (digest_field s m.past t n.terms) (Some login)) o) known

@@ -24,3 +24,6 @@ pub mod Numbers
 pub mod Renewing
 pub mod Rooms
 pub mod Driving
+pub mod Picking
+pub mod Deciding
+pub mod NextNonces

@@ -28,7 +28,7 @@ same_self Server = refl
 same_self Proxy = refl
 same_self Socks = refl
 
-abbrev proxy_site : Request → Origin → Site
+abbrev pub proxy_site : Request → Origin → Site
 proxy_site request proxy = record { partition = request.partition; target = Proxy; origin = proxy }
 
 -- a site is of its target

@@ -120,7 +120,7 @@ behind_renewal s past gift k reply NoMemory = refl
 
 -- what the last head carried for another target is held still
 carried_elsewhere : (s : Setting) (past : List Event) (gift : Gift) (k : ℕ) (reply : BookReply) (x : Target) → target_is s gift.space x ≡ false → IsCarriedStill s past x → IsCarriedStill s (Called (Renew gift k) reply ∷ past) x
-carried_elsewhere s past gift k reply x other is = (is.0, ap (λ b. if b then gift_held gift k None else held s past x) other ∙ is.1)
+carried_elsewhere s past gift k reply x other is = record { link = is.link; same = ap (λ b. if b then gift_held gift k None else held s past x) other ∙ is.same }
 
 -- the gift was given them
 pub renewed_last_ties : (s : Setting) (m : Kept) (t : Target) (gift : Gift) (k : ℕ) (c : Closing) (reply : BookReply) → m.stage ≡ RenewLast t gift k c → IsTrue (suits s m.past (Renew gift k) reply) → Ties s m

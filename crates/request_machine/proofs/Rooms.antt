@@ -17,7 +17,7 @@ use Rattle.trace_laws.proofs.Sums.{short_pasts}
 use Rattle.request_machine.specs.declared.stage.Stage.{Stage}
 use Rattle.request_machine.specs.declared.stage.Stage.TheVariants.{Call as Calling, Go, Learn, Draw, Choose, NameSpace, NameTerms, NameRenewal, Renew as Renewing, NextNonce, NameLast, RenewLast, Select as Selecting, Ask, NameText, Answer as Answering, Cancel as Cancelling, Lose as Losing, Take as Taking, Reject as Rejecting, Read, Close, End, Spent, SpentEnd, SpentOver, Over}
 use Rattle.request_machine.specs.declared.need.Need.TheVariants.{SpaceNo, TermsNo, TextNo}
-use Rattle.request_machine.specs.Kept.{Kept, Ties, IsStage, IsKept, lost_at}
+use Rattle.request_machine.specs.Kept.{Kept, Ties, IsStage, IsKept, IsTied, lost_at}
 use Rattle.request_machine.specs.Needs.{need_at, is_naming}
 use Rattle.request_machine.specs.Turns.{is_asking}
 use Rattle.request_machine.specs.Rooms.{HasSetting, HasSettingOf, HasRoomToGo, HasRoomToRead, HasRoomAt}
@@ -148,3 +148,17 @@ named_asks s m _ naming kept = absurd (false≢true naming)
 -- so a machine that asks for nothing names nothing
 pub names_none : (request : Request) (m : Kept) → HasSettingOf request m → is_asking m ≡ false → is_naming m.stage ≡ true → ⊥
 names_none request m tied idle naming = false≢true (sym idle ∙ named_asks tied.setting m m.stage naming tied.ties.kept)
+
+-- BY WHERE THE MACHINE STANDS
+
+pub tied_go : (request : Request) (m : Kept) → HasSettingOf request m → m.stage ≡ Go → HasRoomToGo m
+tied_go request m tied same = subst (λ st. HasRoomAt st m) same (tied_room_at request m tied)
+
+pub tied_read : (request : Request) (m : Kept) (link : ℕ) → HasSettingOf request m → m.stage ≡ Read link → HasRoomToRead m
+tied_read request m link tied same = subst (λ st. HasRoomAt st m) same (tied_room_at request m tied)
+
+pub tied_past : (request : Request) (m : Kept) → HasSettingOf request m → length m.past < 256
+tied_past request m tied = past_room tied.setting tied.numbers m tied.ties
+
+pub setting_tied : (request : Request) (m : Kept) → HasSettingOf request m → IsTied m request
+setting_tied request m tied = (tied.setting, tied.same_request, tied.ties)

@@ -1,31 +1,53 @@
--- What a challenge decides on what is held.
-use Rattle.std.specs.Prelude.{◌≡◌, Bool, ◌&&◌, Option, Some, None, IfSome, is_some}
+-- The challenge that is answered, and the one that decides on what is held.
+use Rattle.std.specs.Prelude.{◌≡◌, false, Bool, ◌&&◌, List, Option, Some, None, IfSome, is_some, option_map, option_and_then, find, if◌then◌else◌}
+use Rattle.spaces.specs.declared.roster.Request.{Request}
 use Rattle.spaces.specs.declared.site.Target.{Target}
+use Rattle.spaces.specs.declared.terms.Terms.{Terms}
+use Rattle.spaces.specs.Sites.{site, same_space}
+use Rattle.auth_events.specs.declared.journal.Gift.{Gift}
+use Rattle.auth_runs.specs.declared.event.Event.{Event}
 use Rattle.wire_head.specs.declared.reply.Reply.{Reply}
-use Rattle.trace_rule.specs.Settings.{Setting}
-use Rattle.trace_rule.specs.Challenges.{Offer, challenged}
-use Rattle.trace_rule.specs.Holding.{deciding}
-use Rattle.trace_rule.specs.Holding.Decision.{Offering}
+use Rattle.trace_rule.specs.Challenges.{Offer, supported, best, space_at}
+use Rattle.trace_rule.specs.Holding.{last_reply}
 use Rattle.request_machine.specs.declared.holding.Holding.{Holding}
-use Rattle.request_machine.specs.Kept.{Kept, held_kept}
+use Rattle.request_machine.specs.declared.pick.Pick.{Pick}
+use Rattle.request_machine.specs.declared.decide.Decision.{Decision}
+use Rattle.request_machine.specs.Kept.{Kept}
 use Rattle.request_machine.specs.Changed.{holding}
 
--- the reply challenges the target, and decides nothing on what is held for it
-pub record IsUndecided (s : Setting) (m : Kept) (reply : Reply) (t : Target) : Type 0 where
-  pub target : challenged s reply ≡ Some t
-  pub undecided : IfSome (holding m t) (λ h. deciding s reply t (held_kept h) ≡ None)
+-- THE CHALLENGE THAT IS ANSWERED
 
--- a challenge of the target decides on what is held
-pub record IsDecided (s : Setting) (m : Kept) (reply : Reply) (t : Target) (h : Holding) (offered : Offer) : Type 0 where
-  pub target : challenged s reply ≡ Some t
-  pub held : holding m t ≡ Some h
-  pub decides : deciding s reply t (held_kept h) ≡ Some (Offering offered)
+-- the best challenge of the last reply
+abbrev pub IsBest : List Event → Option Offer → Type 0
+IsBest past o = (reply : Reply) → last_reply past ≡ Some reply → best (supported false reply) ≡ o
 
--- it is stale, and has terms
-abbrev pub is_renewal : Offer → Bool
-is_renewal offered = offered.stale && is_some offered.terms
+-- its space at the target's site, and its terms
+pub record IsPickOf (request : Request) (t : Target) (offered : Offer) (pick : Pick) : Type 0 where
+  pub at_site : option_map (λ place. space_at place offered) (site request t) ≡ Some pick.space
+  pub same_terms : pick.terms ≡ offered.terms
 
--- the reply challenges the target, and decides on what is held for it, or doesn't
-pub record IsLast (s : Setting) (m : Kept) (reply : Reply) (t : Target) (kept : Bool) : Type 0 where
-  pub target : challenged s reply ≡ Some t
-  pub decides : IfSome (holding m t) (λ h. is_some (deciding s reply t (held_kept h)) ≡ kept)
+abbrev pub IsPick : List Event → Request → Target → Option Pick → Type 0
+IsPick past request t None = IsBest past None
+IsPick past request t (Some pick) = (offered : Offer) × IsBest past (Some offered) × IsPickOf request t offered pick
+
+-- THE CHALLENGE THAT DECIDES
+
+-- the first supported challenge of the space that was told
+abbrev pub offer_told : Request → Reply → Target → Holding → Option Offer
+offer_told request reply t h =
+    option_and_then (λ place. option_and_then (λ named. find (λ offered. same_space (space_at place offered) named) (supported false reply)) h.space) (site request t)
+
+-- the terms of a stale challenge
+abbrev pub stale_terms : Offer → Option Terms
+stale_terms offered = if offered.stale then offered.terms else None
+
+-- a stale challenge renews the gift with its terms, and any other rejects it
+abbrev pub decision_by : Gift → Offer → Decision
+decision_by gift offered = record { gift = gift; terms = stale_terms offered }
+
+abbrev pub decision_told : Request → Reply → Target → Holding → Option Decision
+decision_told request reply t h = option_map (decision_by h.gift) (offer_told request reply t h)
+
+-- what the reply decides on what is held for the target; nothing where none of its challenges does
+abbrev pub decision_at : Kept → Request → Reply → Target → Option Decision
+decision_at m request reply t = option_and_then (decision_told request reply t) (holding m t)

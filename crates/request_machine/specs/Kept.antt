@@ -164,8 +164,9 @@ renewals_behind s past Server = []
 renewals_behind s past Socks = []
 
 -- what the last head carried for the target is held still
-abbrev pub IsCarriedStill : Setting → List Event → Target → Type 0
-IsCarriedStill s past t = (link : ℕ) × (held s past t ≡ option_map (held_headed link) (carried s past t))
+pub record IsCarriedStill (s : Setting) (past : List Event) (t : Target) : Type 0 where
+  pub link : ℕ
+  pub same : held s past t ≡ option_map (held_headed link) (carried s past t)
 
 abbrev pub AreCarriedFrom : Setting → List Event → Target → Type 0
 AreCarriedFrom s past Proxy = IsCarriedStill s past Proxy × IsCarriedStill s past Server
@@ -379,6 +380,6 @@ pub record Ties (s : Setting) (m : Kept) : Type 0 where
   pub open_still : IsOpen m.stage (closings_made s m.past)
   pub kept : IsKept s m m.stage
 
--- some setting stands for what it keeps
-abbrev pub IsTied : Kept → Type 0
-IsTied m = (s : Setting) × Ties s m
+-- a setting of the request stands for what it keeps
+abbrev pub IsTied : Kept → Request → Type 0
+IsTied m request = (s : Setting) × (s.request ≡ request) × Ties s m

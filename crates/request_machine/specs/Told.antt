@@ -1,5 +1,5 @@
 -- What a machine knows of what it holds, by what it was told.
-use Rattle.std.specs.Prelude.{ℕ, ◌≡◌, ◌||◌, Bool, false, Option, Some, None, IsSome, is_some, unwrap_or, option_map, option_and_then, if◌then◌else◌}
+use Rattle.std.specs.Prelude.{ℕ, ◌≡◌, ◌||◌, Bool, true, false, Option, Some, None, IsSome, unwrap_or, option_map, option_and_then, if◌then◌else◌}
 use Rattle.spaces.specs.declared.site.Target.{Target}
 use Rattle.spaces.specs.declared.site.Target.TheVariants.{Server, Proxy}
 use Rattle.spaces.specs.declared.space.Scheme.{Scheme}
@@ -26,13 +26,13 @@ counted_nonce named = if has_count named.terms.qop then Some named.nonce else No
 abbrev pub nonce_told : Holding → Option ℕ
 nonce_told h = if scheme_told h.space Digest then option_and_then counted_nonce h.named else None
 
--- nothing is held, or a Basic or Digest identity of which all is told
+-- it is no Negotiate identity, and all is told of it
 pub record IsReady (h : Holding) : Type 0 where
   pub space : IsSome h.space
   pub plain : scheme_told h.space Negotiate ≡ false
   pub free : h.context ≡ None
   pub identity : IsSome h.identity
-  pub named : scheme_told h.space Digest ≡ is_some h.named
+  pub named : scheme_told h.space Digest ≡ true → IsSome h.named
 
 -- the first target of a route
 abbrev pub target_of : Bool → Target

@@ -11,23 +11,27 @@ use auth_runs::{Event, Outcome, Why};
 use spaces::{Target, same_target};
 
 impl Machine {
-    ghost use Rattle.std.specs.Prelude.{◌≡◌, ◌∷◌, ◌<◌, IsTrue, Some, None, length};
+    ghost use Rattle.std.specs.Prelude.{◌≡◌, ◌∷◌, ◌<◌, IsTrue, Some, None, length, true};
     ghost use Rattle.trace_rule.specs.Settings.{Setting};
     ghost use Rattle.trace_rule.specs.Traces.{suits};
+    ghost use Rattle.request_machine.specs.Chosen.{IsBest};
+    ghost use Rattle.request_machine.specs.Turns.{is_asking};
     ghost use Rattle.request_machine.specs.Linked.{line, way, goes_on};
-    ghost use Rattle.request_machine.specs.Kept.{Ties, IsChosen};
+    ghost use Rattle.request_machine.specs.Kept.{Ties};
     ghost use Rattle.request_machine.specs.Told.{held_chosen, held_rejected};
-    ghost use Rattle.wire_head.specs.declared.reply.Reply.{Reply};
 
     /// No challenge can be answered.
-    #[tactic(auto, using(crate::proofs::Choosing::refused_ties))]
-    pub(crate) fn refuse(&mut self, code: u16, target: Target)
+    pub(crate) fn refuse(&mut self, target: Target)
         requires stage { self.old.stage ≡ Stage.Choose target }
-        ensures ties { (s : Setting) (reply : Reply) → reply.code ≡ code
-            → IsChosen s self.old.past reply target None → Ties s self.old → Ties s self.new }
+        requires none { IsBest self.old.past None }
+        ensures past { self.new.past ≡ self.old.past }
+        ensures asks { is_asking self.new ≡ true }
+        ensures kept { line self.new ≡ line self.old }
+        ensures goes { IsTrue (goes_on (way self.old.stage) (way self.new.stage)) }
+        ensures ties { (s : Setting) → Ties s self.old → Ties s self.new }
     {
         let closing = Closing {
-            outcome: Outcome::Refused(code, Why::NoChallenge),
+            outcome: Outcome::Refused(self.code, Why::NoChallenge),
             proxy: unless_it(target, Target::Proxy, self.noted_proxy),
             server: unless_it(target, Target::Server, self.noted_server),
         };

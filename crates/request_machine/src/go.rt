@@ -197,8 +197,8 @@ impl Machine {
         self.stage = Stage::Learn(target, piece);
     }
 
-    /// The request can't go on with what is held: the book is to tell more of it, or, so far, it is of
-    /// another scheme.
+    /// The request can't go on with what is held: the book is to tell more of it, or, so far, it is a
+    /// Negotiate identity.
     pub(crate) fn lack(&mut self, target: Target, piece: Option<Piece>)
         requires stage { self.old.stage ≡ Stage.Go }
         requires held { is_some (holding self.old target) ≡ true }

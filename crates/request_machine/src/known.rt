@@ -57,8 +57,8 @@ pub(crate) fn bare(gift: Gift, terms: u32) -> Holding
     }
 }
 
-/// Whether all is told of what is held; else what is lacking, or nothing where it is of another scheme
-/// than Basic and Digest.
+/// Whether all is told of what is held; else what is lacking, or nothing where it is a Negotiate
+/// identity.
 pub(crate) fn readiness(held: &Option<Holding>) -> Result<(), Option<Piece>>
     ensures ready { OnOk result (IfSome held.now IsReady) }
     ensures lack { OnErr result (is_some held.now ≡ true) }
@@ -82,13 +82,7 @@ pub(crate) fn readiness_of(held: &Holding) -> Result<(), Option<Piece>>
         return Err(Some(Piece::Identity));
     }
     match space.scheme() {
-        Scheme::Basic => {
-            if held.named.is_none() {
-                Ok(())
-            } else {
-                Err(None)
-            }
-        }
+        Scheme::Basic => Ok(()),
         Scheme::Digest => {
             if held.named.is_some() {
                 Ok(())
@@ -96,7 +90,8 @@ pub(crate) fn readiness_of(held: &Holding) -> Result<(), Option<Piece>>
                 Err(Some(Piece::Terms))
             }
         }
-        _ => Err(None),
+        Scheme::Negotiate => Err(None),
+        Scheme::Password => Ok(()),
     }
 }
 

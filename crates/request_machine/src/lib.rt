@@ -2,12 +2,12 @@
 //! events and, in its fields and its stage, what they say by the rule of a request; each change of it
 //! is proved to keep that. The caller gives it what the book, the words and the user tell.
 //!
-//! So far it covers the calls that begin a request, the way to each head with Basic and Digest
-//! identities for both targets, dials, draws and heads, replies over free links, the book's choice,
-//! prompts that are led or followed, rejections, the calls at the end, and want of memory. Still to
-//! come are the reading of which challenge is answered and which decides on what is held, next
-//! nonces, Negotiate, and the one call that drives the whole; where a request meets one of these it
-//! ends as it does for want of memory.
+//! It covers the calls that begin a request, the way to each head with Basic and Digest identities for
+//! both targets, dials, draws and heads, replies over free links, which challenge is answered and which
+//! decides on what is held, the names of spaces, terms and texts, the book's choice, prompts that are
+//! led or followed, rejections, renewals behind a stale challenge and by a next nonce, the calls at the
+//! end, and want of memory. Negotiate challenges are passed over so far. Still to come is the one call
+//! that drives the whole.
 #![tactic(auto)]
 
 mod ask;
@@ -16,6 +16,7 @@ mod challenge;
 mod choose;
 mod close;
 mod cut;
+mod decide;
 mod fields;
 mod gave;
 mod gear;
@@ -26,6 +27,7 @@ mod machine;
 mod naming;
 mod need;
 mod needs;
+mod pick;
 mod read;
 mod renew;
 mod send;

@@ -7,8 +7,10 @@ ghost use Rattle.request_machine.specs.Replies.{challenged_told};
 
 use crate::close::closing_by;
 use crate::machine::Machine;
+use crate::renew::stage_answered;
 use crate::stage::{Closing, Stage};
 use auth_runs::{Event, Outcome, Reply, WireFault};
+use auth_text::NoMemory;
 use connection_binding::{FreeLink, ReadEnd};
 use link_trait::Dialer;
 use spaces::{Method, Request, Target};
@@ -16,7 +18,7 @@ use std::alloc::Global;
 use wire_head::carried;
 
 impl Machine {
-    ghost use Rattle.std.specs.Prelude.{◌≡◌, ◌<◌, ◌∷◌, [], IsTrue, Some, None, length, List, Option};
+    ghost use Rattle.std.specs.Prelude.{◌≡◌, ◌<◌, ◌∷◌, IfSome, IsTrue, None, length, List, Option};
     ghost use Rattle.trace_rule.specs.Settings.{Setting};
     ghost use Rattle.trace_rule.specs.Traces.{can_be};
     ghost use Rattle.trace_rule.specs.Challenges.{challenged};
@@ -24,7 +26,7 @@ impl Machine {
     ghost use Rattle.link_trait.specs.Told.{grown};
     ghost use Rattle.request_machine.specs.Reads.{IsFitRead};
     ghost use Rattle.link_trait.specs.declared.dialer.Dial.{Dial};
-    ghost use Rattle.request_machine.specs.Kept.{Ties, IsLinkOpen};
+    ghost use Rattle.request_machine.specs.Kept.{Ties, IsTied, IsLinkOpen};
     ghost use Rattle.request_machine.specs.Turns.{opened_without, turns_left};
     ghost use Rattle.request_machine.specs.Linked.{line, way, is_away, IsLinked, IsOnlyLink, AreDialsOf, IsDriven};
 
@@ -61,7 +63,7 @@ impl Machine {
     }
 
     /// Reads the reply and closes the link.
-    #[tactic(auto, using(crate::proofs::Reading::linked_ties, crate::proofs::Driving::reading_open))]
+    #[tactic(auto, using(crate::proofs::Reading::linked_ties, crate::proofs::Reading::linked_tied, crate::proofs::Driving::reading_open))]
     pub(crate) fn read<D: Dialer>(
         &mut self,
         alloc: Global,
@@ -75,7 +77,9 @@ impl Machine {
         requires linked { IsLinked self.old }
         requires links { IsOnlyLink (line self.old) (D.opened dialer.old) }
         requires told { AreDialsOf (line self.old) (D.dials dialer.old) }
-        ensures ties { (s : Setting) → Ties s self.old → Ties s self.new }
+        requires tied { IsTied self.old request.now }
+        ensures ties { (s : Setting) → s.request ≡ request.now → Ties s self.old
+            → Ties s self.new }
         ensures dials { (s : Setting) (before : Option (List Dial))
             → D.dials dialer.old ≡ grown before (dials s self.old.past)
             → D.dials dialer.new ≡ grown before (dials s self.new.past) }
@@ -86,9 +90,9 @@ impl Machine {
         let end = self.read_link(alloc, dialer, request.method);
         self.close_link(dialer);
         match end {
-            ReadEnd::Whole(reply) => self.replied(link, reply),
+            ReadEnd::Whole(reply) => self.replied(alloc, request, link, reply),
             ReadEnd::Broken(fault) => self.broken(link, fault),
-            ReadEnd::Lost => self.spend(),
+            ReadEnd::Lost => unreachable!(),
             ReadEnd::Failed { count } => self.read_failed(link, count),
             ReadEnd::NoMemory => self.spend(),
         }
@@ -130,8 +134,6 @@ impl Machine {
         requires room { length self.old.past < 256 }
         requires stage { self.old.stage ≡ Stage.Read link }
         requires reply { IsTrue (can_be reply) }
-        requires no_proxy { reply.proxy_info ≡ [] }
-        requires no_server { reply.server_info ≡ [] }
         ensures past { self.new.past ≡ Event.Replied link reply ∷ self.old.past }
         ensures kept { line self.new ≡ line self.old }
         ensures away { IsTrue (is_away (way self.new.stage)) }
@@ -142,44 +144,35 @@ impl Machine {
         let code = reply.code;
         self.push(Event::Replied { link, reply });
         self.code = code;
-        self.stage = Stage::Close(Closing {
+        let closing = Closing {
             outcome: Outcome::Answered(code),
             proxy: self.noted_proxy,
             server: self.noted_server,
-        });
+        };
+        self.stage = stage_answered(self.rounds, closing);
     }
 
-    /// Goes on with a whole reply. So far a challenge of a target for which something is held, and a
-    /// reply with infos, end the request as want of memory does.
-    #[tactic(auto, using(crate::proofs::Reading::challenged_is_told, crate::proofs::Decided::free_undecided, crate::proofs::Decided::free_last))]
-    pub(crate) fn replied(&mut self, link: u32, reply: Reply)
+    /// Goes on with a whole reply.
+    #[tactic(auto, using(crate::proofs::Reading::challenged_is_told, crate::proofs::Reading::ready_at))]
+    pub(crate) fn replied(&mut self, alloc: Global, request: &Request, link: u32, reply: Reply)
         requires room { length self.old.past < 250 }
         requires few_rounds { self.old.rounds < 256 }
         requires stage { self.old.stage ≡ Stage.Read link }
         requires reply { IsTrue (can_be reply) }
-        ensures ties { (s : Setting) → Ties s self.old → Ties s self.new }
+        requires tied { IsTied self.old request.now }
+        ensures ties { (s : Setting) → s.request ≡ request.now → Ties s self.old
+            → Ties s self.new }
         ensures dials { (s : Setting) → dials s self.new.past ≡ dials s self.old.past }
         ensures kept { line self.new ≡ line self.old }
         ensures away { IsTrue (is_away (way self.new.stage)) }
         ensures left { turns_left self.new < 3 }
     {
         match challenged_told(self.is_proxied, reply.code) {
-            None => {
-                if reply.proxy_info.is_empty() && reply.server_info.is_empty() {
-                    self.answered(link, reply);
-                } else {
-                    self.spend();
-                }
-            }
-            Some(target) => {
-                if !self.is_free(target) {
-                    self.spend();
-                } else if self.rounds < 16 {
-                    self.undecided(link, reply, target);
-                } else {
-                    self.last_round(link, reply, target, false);
-                }
-            }
+            None => self.answered(link, reply),
+            Some(target) => match self.decision(alloc, request, target, &reply) {
+                Err(NoMemory) => self.spend(),
+                Ok(decision) => self.challenged(link, reply, target, decision),
+            },
         }
     }
 }

@@ -22,7 +22,7 @@ impl Machine {
     ghost use Rattle.request_machine.specs.Linked.{way, goes_on, is_ending, line, IsLinked, IsOnlyLink, AreDialsOf, IsDriven};
 
     /// Does what comes next, where the machine goes on by itself.
-    #[tactic(auto, using(crate::proofs::Rooms::tied_room_at, crate::proofs::Rooms::names_none))]
+    #[tactic(auto, using(crate::proofs::Rooms::setting_tied, crate::proofs::Rooms::tied_go, crate::proofs::Rooms::tied_read, crate::proofs::Rooms::tied_past, crate::proofs::Rooms::names_none, crate::proofs::NextNonces::answer_there))]
     pub(crate) fn turn<D: Dialer, P: Prompter>(
         &mut self,
         alloc: Global,
@@ -46,13 +46,13 @@ impl Machine {
     {
         match self.stage {
             Stage::Go => self.go(alloc, request, dialer),
+            Stage::Choose(target) => self.choose(alloc, request, target),
             Stage::Read(link) => self.read(alloc, request, dialer, link),
             Stage::Ask(prompt, ordinal) => self.ask_next(prompter, prompt, ordinal),
+            Stage::NextNonce(target, closing) => self.renew_next(alloc, target, closing),
             Stage::End(outcome) => self.finished(outcome),
             Stage::SpentOver => self.spent_over(),
             Stage::Learn(target, piece) => self.resume(target, piece),
-            Stage::Choose(_) => self.spend(),
-            Stage::NextNonce(_, _) => self.spend(),
             _ => unreachable!(),
         }
     }

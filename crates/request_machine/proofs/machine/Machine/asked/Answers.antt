@@ -1,6 +1,7 @@
-use Rattle.std.proofs.Common.{◌∷◌, ap, sym, subst, ◌∙◌}
+use Rattle.std.proofs.Common.{◌≡◌, ◌∷◌, true, refl, sym, subst, ◌∙◌}
 use Rattle.auth_runs.specs.declared.event.Event.TheVariants.{AskedFor}
 use Rattle.request_machine.specs.Kept.{Kept, Ties}
+use Rattle.request_machine.specs.Turns.{is_asking}
 use Rattle.request_machine.proofs.Prompting.{asked_ties, asked_asks}
 use Rattle.request_machine.proofs.machine.Machine.asked.Goals as goal
 
@@ -12,4 +13,6 @@ returns-clause-ties c = λ s t.
 
 pub returns-clause-asks : goal.returns-clause-asks
 returns-clause-asks c =
-    asked_asks c.args.self.now _ c.args.prompt c.args.given c.stage_asked-self-inside.ensures (ap (λ (v : Kept). v.given) (c.self.view_is ∙ c.push.ensures)) c.requires.kept
+    subst (λ (v : Kept). is_asking (record v { stage = c.stage_asked-self-inside.result }) ≡ true) (sym (c.self.view_is ∙ c.push.ensures))
+    (asked_asks c.args.self.now (record c.args.self.now { past = AskedFor c.args.prompt.number c.args.given ∷ c.args.self.now.past; stage = c.stage_asked-self-inside.result }) c.args.prompt c.args.given
+    c.stage_asked-self-inside.ensures refl c.requires.kept)

@@ -23,7 +23,7 @@ pub returns-in-Learn-clause-driven : goal.returns-in-Learn-clause-driven
 returns-in-Learn-clause-driven g c = driven_same c.args.self.now c.resume.new.self _ _ c.resume.ensures.kept c.resume.ensures.goes c.requires.linked c.requires.links c.requires.told
 
 pub returns-in-Choose-clause-driven : goal.returns-in-Choose-clause-driven
-returns-in-Choose-clause-driven g c = driven_same c.args.self.now c.spend.new.self _ _ c.spend.ensures.kept c.spend.ensures.goes c.requires.linked c.requires.links c.requires.told
+returns-in-Choose-clause-driven g c = driven_same c.args.self.now c.choose.new.self _ _ c.choose.ensures.kept c.choose.ensures.goes c.requires.linked c.requires.links c.requires.told
 
 pub returns-in-NextNonce-clause-driven : goal.returns-in-NextNonce-clause-driven
-returns-in-NextNonce-clause-driven g c = driven_same c.args.self.now c.spend-in-NextNonce.new.self _ _ c.spend-in-NextNonce.ensures.kept c.spend-in-NextNonce.ensures.goes c.requires.linked c.requires.links c.requires.told
+returns-in-NextNonce-clause-driven g c = driven_same c.args.self.now c.renew_next.new.self _ _ c.renew_next.ensures.kept c.renew_next.ensures.goes c.requires.linked c.requires.links c.requires.told

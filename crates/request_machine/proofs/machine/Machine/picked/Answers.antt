@@ -1,0 +1,11 @@
+use Rattle.std.proofs.Common.{Some, sym, subst, ap, ◌∙◌}
+use Rattle.request_machine.specs.declared.stage.Stage.TheVariants.{NameSpace}
+use Rattle.request_machine.specs.Kept.{Kept, Ties}
+use Rattle.request_machine.proofs.Picking.{picked_ties}
+use Rattle.request_machine.proofs.machine.Machine.picked.Goals as goal
+
+pub returns-clause-ties : goal.returns-clause-ties
+returns-clause-ties c = λ s is t.
+    subst (λ (v : Kept). Ties s (record v { stage = NameSpace c.args.target }))
+    (sym (c.self.view_is ∙ c.put_terms.ensures ∙ ap (λ (m : Kept). record m { unnamed_terms = c.args.pick.terms }) c.put_space.ensures))
+    (picked_ties s c.args.self.now c.args.target c.args.pick c.requires.stage is t)

@@ -1,0 +1,11 @@
+use Rattle.std.proofs.Common.{Some, sym, subst, ap, ◌∙◌}
+use Rattle.request_machine.specs.declared.stage.Stage.TheVariants.{NameLast}
+use Rattle.request_machine.specs.Kept.{Kept, Ties}
+use Rattle.request_machine.proofs.NextNonces.{renews_ties}
+use Rattle.request_machine.proofs.machine.Machine.renews.Goals as goal
+
+pub returns-clause-ties : goal.returns-clause-ties
+returns-clause-ties c = λ s t.
+    subst (λ (v : Kept). Ties s (record v { stage = NameLast c.args.target c.args.renewal.gift c.args.closing }))
+    (sym (c.self.view_is ∙ c.put_terms.ensures))
+    (renews_ties s c.args.self.now c.args.target c.args.closing c.args.renewal c.requires.stage c.requires.some t)
