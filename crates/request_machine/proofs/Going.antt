@@ -1,5 +1,5 @@
 -- The way to the next head, where Basic and Digest identities are held alone.
-use Rattle.std.proofs.Common.{◌≡◌, ℕ, ◌+◌, Bool, true, false, not, ◌&&◌, List, Option, Some, None, is_some, is_none, unwrap_or, option_map, option_and_then, IsSome, IfSome, refl, sym, ap, ◌∙◌, if◌then◌else◌}
+use Rattle.std.proofs.Common.{◌≡◌, ℕ, ◌+◌, Bool, true, false, not, ◌&&◌, List, Option, Some, None, is_none, unwrap_or, option_map, option_and_then, IsSome, IfSome, refl, ap, ◌∙◌, if◌then◌else◌}
 use Rattle.std.proofs.lemmas.Bool.{false≢true}
 use Rattle.spaces.specs.declared.site.Target.{Target}
 use Rattle.spaces.specs.declared.site.Target.TheVariants.{Server, Proxy}

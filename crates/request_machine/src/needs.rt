@@ -8,7 +8,7 @@ ghost use Rattle.request_machine.specs.declared.need.Need.TheVariants.{SpaceNo, 
 use crate::close::first_left;
 use crate::machine::Machine;
 use crate::need::{Need, need_of};
-use crate::stage::Stage;
+use crate::stage::{Prompt, Stage};
 use auth_events::{Call, Loss};
 use auth_text::{Identity, NoMemory};
 use spaces::{Space, Target, Terms, copy_identity, copy_space, copy_terms};
@@ -27,16 +27,8 @@ impl Machine {
         match self.stage {
             Stage::Call(call) => Some(Need::Book(call)),
             Stage::Select(_, space, terms) => Some(Need::Book(Call::Select { space, terms })),
-            Stage::Answer(prompt, text) => Some(Need::Book(Call::Answer {
-                prompt: prompt.number,
-                text,
-                terms: prompt.terms,
-            })),
-            Stage::Cancel(prompt) => Some(Need::Book(Call::Answer {
-                prompt: prompt.number,
-                text: 0,
-                terms: prompt.terms,
-            })),
+            Stage::Answer(prompt, text) => Some(Need::Book(answer(prompt, text))),
+            Stage::Cancel(prompt) => Some(Need::Book(answer(prompt, 0))),
             Stage::Lose(prompt, loss) => Some(Need::Book(Call::Lose {
                 prompt: prompt.number,
                 loss,
@@ -102,6 +94,17 @@ impl Machine {
                 Some(Need::Book(spent_call(self.prompt)))
             }
         }
+    }
+}
+
+/// The answer to a prompt.
+fn answer(prompt: Prompt, text: u32) -> Call
+    ensures { result ≡ Call.Answer prompt.number text prompt.terms }
+{
+    Call::Answer {
+        prompt: prompt.number,
+        text,
+        terms: prompt.terms,
     }
 }
 
