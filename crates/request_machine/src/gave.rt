@@ -335,7 +335,7 @@ impl Machine {
         }
     }
 
-    /// The terms that were to be named have a number.
+    /// The terms that were to be named have a number, which is never 0.
     fn terms_numbered(&mut self, terms: u32)
         ensures past { self.new.past ≡ self.old.past }
         ensures kept { line self.new ≡ line self.old }
@@ -343,6 +343,9 @@ impl Machine {
         ensures ties { (s : Setting) → AreTermsNumbered s self.old self.old.stage terms
             → Ties s self.old → Ties s self.new }
     {
+        if terms == 0 {
+            return;
+        }
         match self.stage {
             Stage::NameTerms(target, space) => self.terms_named(target, space, terms),
             Stage::NameRenewal(target, gift) => self.renewal_named(target, gift, terms),
