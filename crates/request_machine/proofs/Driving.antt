@@ -159,7 +159,7 @@ driven_dialed m n to opened dials was now same none linked only dialed = record 
     only = λ k. has_more (nth_link (line m) k) (next_link m) opened ∙ ap (λ b. b || same_link (next_link m) (nth_link (line m) k)) (only.only k ∙ ap (λ o. unwrap_or (option_map (λ (link : LinkName). link.nth == k) o) false) none) ∙ same_nth m.number (m.links + 1) k;
   });
   dialed = subst (λ l. AreDialsOf l (grown dials (record { link = next_link m; to = to } ∷ []))) (sym same) (λ k later.
-    undialed_more (nth_link (line m) k) (next_link m) to dials (dialed k (omega arith)) (same_nth m.number (m.links + 1) k ∙ less k later));
+      undialed_more (nth_link (line m) k) (next_link m) to dials (dialed k (omega arith)) (same_nth m.number (m.links + 1) k ∙ less k later));
   others = own_more m.number (m.links + 1) opened;
 }
   where

@@ -9,12 +9,12 @@ use Rattle.request_machine.proofs.machine.Machine.told_identity.Goals as goal
 
 pub returns-clause-ties : goal.returns-clause-ties
 returns-clause-ties c = λ s told t.
-      subst (λ (v : Kept). Ties s (record v { stage = Go }))
-      (sym (c.self.view_is ∙ c.put.ensures
-      ∙ ap (put_held c.args.target c.with_identity.result) c.take-before.ensures.rest
-      ∙ ap (λ h. put_held c.args.target h (put_held c.args.target None c.args.self.now)) (c.with_identity.ensures ∙ ap (option_map (with_identity c.args.identity)) c.take-before.ensures.value)
-      ∙ put_twice c.args.target (option_map (with_identity c.args.identity) (holding c.args.self.now c.args.target)) c.args.self.now))
-      (identity_ties s c.args.self.now c.args.target c.args.identity c.requires.stage told t)
+    subst (λ (v : Kept). Ties s (record v { stage = Go }))
+    (sym (c.self.view_is ∙ c.put.ensures
+    ∙ ap (put_held c.args.target c.with_identity.result) c.take-before.ensures.rest
+    ∙ ap (λ h. put_held c.args.target h (put_held c.args.target None c.args.self.now)) (c.with_identity.ensures ∙ ap (option_map (with_identity c.args.identity)) c.take-before.ensures.value)
+    ∙ put_twice c.args.target (option_map (with_identity c.args.identity) (holding c.args.self.now c.args.target)) c.args.self.now))
+    (identity_ties s c.args.self.now c.args.target c.args.identity c.requires.stage told t)
 
 pub returns-clause-past : goal.returns-clause-past
 returns-clause-past c =

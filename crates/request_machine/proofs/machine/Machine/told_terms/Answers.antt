@@ -9,12 +9,12 @@ use Rattle.request_machine.proofs.machine.Machine.told_terms.Goals as goal
 
 pub returns-clause-ties : goal.returns-clause-ties
 returns-clause-ties c = λ s told t.
-      subst (λ (v : Kept). Ties s (record v { stage = Go }))
-      (sym (c.self.view_is ∙ c.put.ensures
-      ∙ ap (put_held c.args.target c.with_named.result) c.take-before.ensures.rest
-      ∙ ap (λ h. put_held c.args.target h (put_held c.args.target None c.args.self.now)) (c.with_named.ensures ∙ ap (option_map (with_named c.args.named)) c.take-before.ensures.value)
-      ∙ put_twice c.args.target (option_map (with_named c.args.named) (holding c.args.self.now c.args.target)) c.args.self.now))
-      (terms_ties s c.args.self.now c.args.target c.args.named c.requires.stage told t)
+    subst (λ (v : Kept). Ties s (record v { stage = Go }))
+    (sym (c.self.view_is ∙ c.put.ensures
+    ∙ ap (put_held c.args.target c.with_named.result) c.take-before.ensures.rest
+    ∙ ap (λ h. put_held c.args.target h (put_held c.args.target None c.args.self.now)) (c.with_named.ensures ∙ ap (option_map (with_named c.args.named)) c.take-before.ensures.value)
+    ∙ put_twice c.args.target (option_map (with_named c.args.named) (holding c.args.self.now c.args.target)) c.args.self.now))
+    (terms_ties s c.args.self.now c.args.target c.args.named c.requires.stage told t)
 
 pub returns-clause-past : goal.returns-clause-past
 returns-clause-past c =
