@@ -3,6 +3,3 @@ pub mod PromptLemmas
 pub mod ReplyLemmas
 pub mod EventLemmas
 pub mod FirstTrace
-pub mod Retiring
-pub mod Asking
-pub mod Replied

@@ -3,7 +3,6 @@
 #![tactic(auto)]
 
 mod book_calls;
-mod calls;
 mod challenges;
 mod exchange;
 mod gear;
