@@ -82,6 +82,3 @@ refused_ties s m reply x same is t =
 -- the book is to tell more of what is held
 pub learn_ties : (s : Setting) (m : Kept) (t : Target) (piece : Piece) → m.stage ≡ Go → Ties s m → Ties s (record m { stage = Learn t piece })
 learn_ties s m x piece same t = staged s m (Learn x piece) t (subst (IsStage s m.past) same t.stage) (ap is_after_end same) (ap can_stop same) (only_end s m Go same t (λ n e. e)) tt
-
-pub resume_ties : (s : Setting) (m : Kept) (t : Target) (piece : Piece) → m.stage ≡ Learn t piece → Ties s m → Ties s (record m { stage = Go })
-resume_ties s m x piece same t = staged s m Go t (subst (IsStage s m.past) same t.stage) (ap is_after_end same) (ap can_stop same) (only_end s m (Learn x piece) same t (λ n e. e)) tt

@@ -22,8 +22,6 @@ pub mod Fitting
 pub mod Learning
 pub mod Numbers
 pub mod Renewing
-pub mod Rooms
-pub mod Driving
 pub mod Picking
 pub mod Deciding
 pub mod NextNonces

@@ -32,9 +32,6 @@ use Rattle.trace_rule.specs.Closings.{closings, closings_made, is_challenged, no
 use Rattle.trace_rule.specs.Traces.{IsPast, Follows, suits, may_hold, same_loss, settles, is_end, is_follow, prompt_open, space_prompted}
 use Rattle.trace_rule.specs.Telling.{ask_of, prompted, is_answered}
 use Rattle.auth_text.specs.Login.{Login}
-use Rattle.request_machine.specs.declared.need.Need.TheVariants.{TextNo}
-use Rattle.request_machine.specs.Needs.{need_at}
-use Rattle.request_machine.specs.Turns.{is_asking}
 use Rattle.link_trait.specs.Told.{grown}
 use Rattle.std.proofs.lemmas.List.{append-nil}
 use Rattle.request_machine.proofs.Dialing.{grown_more, grown_none}
@@ -46,7 +43,7 @@ use Rattle.request_machine.specs.declared.stage.Stage.TheVariants.{Go, Select as
 use Rattle.request_machine.specs.Kept.{IsKept, Kept, Ties, IsStage, IsOpen, IsHeld, IsLed, IsAskOf, asked_of, is_after_end, can_stop, note_call, calls_left}
 use Rattle.request_machine.specs.Told.{held_chosen, closing_by}
 use Rattle.request_machine.specs.Replies.{challenged_told}
-use Rattle.request_machine.specs.Asking.{IsAskedIn, stage_asked, outcome_lost, unless_told, refused_by}
+use Rattle.request_machine.specs.Asking.{stage_asked, outcome_lost, unless_told, refused_by}
 use Rattle.request_machine.proofs.Quiet.{IsNext, IsStill, quiet_ties, same_held}
 use Rattle.request_machine.proofs.Prompts.{open_behind, open_settled}
 use Rattle.request_machine.proofs.Targets.{held_space}
@@ -459,32 +456,6 @@ given_kept_ties s m p ordinal login same t = record {
   kept = subst (IsKept s (record m { given = Some login })) (sym same) tt;
 }
 
--- nor does the space that is asked for
-pub spaced_ties : (s : Setting) (m : Kept) (space : Option ProtectionSpace) → Ties s m → Ties s (record m { space = space })
-spaced_ties s m space t = record {
-  same_number = t.same_number;
-  same_seed = t.same_seed;
-  route = t.route;
-  stage = t.stage;
-  proxy = t.proxy;
-  server = t.server;
-  drawn_proxy = t.drawn_proxy;
-  drawn_server = t.drawn_server;
-  noted_proxy = t.noted_proxy;
-  noted_server = t.noted_server;
-  links = t.links;
-  heads = t.heads;
-  code = t.code;
-  rounds = t.rounds;
-  is_dialed = t.is_dialed;
-  has_lost = t.has_lost;
-  has_none = t.has_none;
-  ended = t.ended;
-  may_stop = t.may_stop;
-  prompt = t.prompt;
-  open_still = t.open_still;
-}
-
 -- WHAT THE PROMPTER TELLS
 
 -- one answered prompt more
@@ -504,21 +475,3 @@ pub no_ask : (s : Setting) (m : Kept) (p : ℕ) (seen : AskSeen) (before old : O
 no_ask s m p seen before old none told =
     grown_none old ∙ told ∙ ap (grown before) (sym (append-nil (prompted s m.past)))
     ∙ ap (λ b. grown before (prompted s m.past ++ (if b then ask_of s m.past p else []))) (sym none)
-
--- the user was asked, whatever space was kept before
-pub asked_behind : (p : ℕ) (m k n : Kept) → k ≡ record m { space = None } → IsAskedIn p k.past n.past → IsAskedIn p m.past n.past
-asked_behind p m k n same asked = (asked.0, asked.1 ∙ ap (λ (v : Kept). AskedFor p asked.0 ∷ v.past) same)
-
--- behind the prompter's answer the machine asks
-pub asked_asks : (m n : Kept) (p : Prompt) (seen : AskSeen) → n.stage ≡ stage_asked p seen → n.given ≡ m.given → (seen ≡ AskGiven → IsSome m.given) → is_asking n ≡ true
-asked_asks m n p seen now same kept = ap (λ st. is_some (need_at n st)) now ∙ by seen kept
-  where
-    named : (o : Option Login) → IsSome o → is_some (option_map TextNo o) ≡ true
-    named None e = absurd e
-    named (Some login) e = refl
-
-    by : (x : AskSeen) → (x ≡ AskGiven → IsSome m.given) → is_some (need_at n (stage_asked p x)) ≡ true
-    by AskGiven k = named n.given (subst IsSome (sym same) (k refl))
-    by Cancel k = refl
-    by (AskFailed count) k = refl
-    by AskNoMemory k = refl

@@ -18,15 +18,14 @@ use spaces::{Origin, Request, Target};
 use std::alloc::Global;
 
 impl Machine {
-    ghost use Rattle.std.specs.Prelude.{◌≡◌, ◌<◌, ◌∷◌, IfSome, Some, None, length, false, true, ◌+◌, List, Option, IsTrue, is_some};
+    ghost use Rattle.std.specs.Prelude.{◌≡◌, ◌<◌, ◌∷◌, IfSome, Some, None, length, false, true, ◌+◌, List, Option};
     ghost use Rattle.trace_rule.specs.Settings.{Setting};
     ghost use Rattle.trace_rule.specs.Telling.{dials};
     ghost use Rattle.link_trait.specs.Told.{grown};
+    ghost use Rattle.link_trait.specs.Links.{has_link, IsUndialed};
     ghost use Rattle.link_trait.specs.declared.dialer.Dial.{Dial};
-    ghost use Rattle.request_machine.specs.Linked.{line, way, goes_on, IsLinked, IsOnlyLink, AreDialsOf, IsDriven};
-    ghost use Rattle.request_machine.specs.Kept.{Ties};
-    ghost use Rattle.request_machine.specs.Changed.{holding};
-    ghost use Rattle.request_machine.specs.Turns.{is_asking, turns_left};
+    ghost use Rattle.request_machine.specs.Kept.{Ties, IsLinkAsDialed};
+    ghost use Rattle.request_machine.specs.Turns.{next_link};
 
     /// The next link was dialed.
     #[tactic(auto, using(crate::proofs::Sending::dialed_ties))]
@@ -38,9 +37,7 @@ impl Machine {
         requires proxy { IfSome self.old.proxy IsReady }
         requires server { IfSome self.old.server IsReady }
         ensures past { self.new.past ≡ Event.Dialed (self.old.links + 1) ∷ self.old.past }
-        ensures stage { self.new.stage ≡ Stage.Go }
-        ensures line { line self.new
-            ≡ record (line self.old) { links = self.old.links + 1; is_dialed = true } }
+        ensures link { self.new.link ≡ self.old.link }
         ensures ties { (s : Setting) → Ties s self.old → Ties s self.new }
     {
         let link = self.links + 1;
@@ -60,9 +57,7 @@ impl Machine {
         requires server { IfSome self.old.server IsReady }
         ensures past { self.new.past
             ≡ Event.DialFailed (self.old.links + 1) count ∷ self.old.past }
-        ensures asks { is_asking self.new ≡ true }
-        ensures kept { line self.new ≡ line self.old }
-        ensures goes { IsTrue (goes_on (way self.old.stage) (way self.new.stage)) }
+        ensures link { self.new.link ≡ self.old.link }
         ensures ties { (s : Setting) → Ties s self.old → Ties s self.new }
     {
         let link = self.links + 1;
@@ -71,7 +66,6 @@ impl Machine {
     }
 
     /// Dials the next link.
-    #[tactic(auto, using(crate::proofs::Driving::free_link, crate::proofs::Driving::next_closed, crate::proofs::Driving::next_fresh))]
     pub(crate) fn dial<D: Dialer>(&mut self, request: &Request, dialer: &mut D)
         requires room { length self.old.past < 256 }
         requires few { self.old.links < 256 }
@@ -79,16 +73,14 @@ impl Machine {
         requires undialed { self.old.is_dialed ≡ false }
         requires proxy { IfSome self.old.proxy IsReady }
         requires server { IfSome self.old.server IsReady }
-        requires linked { IsLinked self.old }
-        requires links { IsOnlyLink (line self.old) (D.opened dialer.old) }
-        requires told { AreDialsOf (line self.old) (D.dials dialer.old) }
+        requires link { self.old.link ≡ None }
+        requires closed { has_link (next_link self.old) (D.opened dialer.old) ≡ false }
+        requires fresh { IsUndialed (next_link self.old) (D.dials dialer.old) }
         ensures ties { (s : Setting) → Ties s self.old → Ties s self.new }
         ensures dials { (s : Setting) (before : Option (List Dial)) → s.request ≡ request.now
             → Ties s self.old → D.dials dialer.old ≡ grown before (dials s self.old.past)
             → D.dials dialer.new ≡ grown before (dials s self.new.past) }
-        ensures driven { IsDriven self.old self.new
-            (D.opened dialer.old) (D.opened dialer.new) (D.dials dialer.new) }
-        ensures nearer { turns_left self.new < turns_left self.old }
+        ensures traffic { D.traffic dialer.new ≡ D.traffic dialer.old }
     {
         let name = LinkName {
             request: self.number,
@@ -113,9 +105,7 @@ impl Machine {
         requires server { IfSome self.old.server IsReady }
         requires next { nonce_next self.old.drawn_proxy self.old.proxy ≡ Some nonce }
         ensures past { self.new.past ≡ self.old.past }
-        ensures asks { is_asking self.new ≡ true }
-        ensures kept { line self.new ≡ line self.old }
-        ensures goes { IsTrue (goes_on (way self.old.stage) (way self.new.stage)) }
+        ensures stage { self.new.stage ≡ Stage.Draw Target.Proxy nonce }
         ensures ties { (s : Setting) → Ties s self.old → Ties s self.new }
     {
         self.stage = Stage::Draw(Target::Proxy, nonce);
@@ -131,9 +121,7 @@ impl Machine {
         requires none { nonce_next self.old.drawn_proxy self.old.proxy ≡ None }
         requires next { nonce_next self.old.drawn_server self.old.server ≡ Some nonce }
         ensures past { self.new.past ≡ self.old.past }
-        ensures asks { is_asking self.new ≡ true }
-        ensures kept { line self.new ≡ line self.old }
-        ensures goes { IsTrue (goes_on (way self.old.stage) (way self.new.stage)) }
+        ensures stage { self.new.stage ≡ Stage.Draw Target.Server nonce }
         ensures ties { (s : Setting) → Ties s self.old → Ties s self.new }
     {
         self.stage = Stage::Draw(Target::Server, nonce);
@@ -145,8 +133,6 @@ impl Machine {
         requires stage { self.old.stage ≡ Stage.Draw Target.Proxy nonce }
         ensures past { self.new.past
             ≡ Event.Drew Target.Proxy nonce drawn.count drawn.epoch ∷ self.old.past }
-        ensures kept { line self.new ≡ line self.old }
-        ensures goes { IsTrue (goes_on (way self.old.stage) (way self.new.stage)) }
         ensures ties { (s : Setting) → Ties s self.old → Ties s self.new }
     {
         self.push(Event::Drew {
@@ -167,8 +153,6 @@ impl Machine {
         requires stage { self.old.stage ≡ Stage.Draw Target.Server nonce }
         ensures past { self.new.past
             ≡ Event.Drew Target.Server nonce drawn.count drawn.epoch ∷ self.old.past }
-        ensures kept { line self.new ≡ line self.old }
-        ensures goes { IsTrue (goes_on (way self.old.stage) (way self.new.stage)) }
         ensures ties { (s : Setting) → Ties s self.old → Ties s self.new }
     {
         self.push(Event::Drew {
@@ -184,14 +168,11 @@ impl Machine {
     }
 
     /// The book is to tell more of what is held.
-    #[tactic(auto, using(crate::proofs::Choosing::learn_ties, crate::proofs::Driving::learns))]
+    #[tactic(auto, using(crate::proofs::Choosing::learn_ties))]
     pub(crate) fn learn(&mut self, target: Target, piece: Piece)
         requires stage { self.old.stage ≡ Stage.Go }
-        requires held { is_some (holding self.old target) ≡ true }
         ensures past { self.new.past ≡ self.old.past }
-        ensures asks { is_asking self.new ≡ true }
-        ensures kept { line self.new ≡ line self.old }
-        ensures goes { IsTrue (goes_on (way self.old.stage) (way self.new.stage)) }
+        ensures link { self.new.link ≡ self.old.link }
         ensures ties { (s : Setting) → Ties s self.old → Ties s self.new }
     {
         self.stage = Stage::Learn(target, piece);
@@ -201,11 +182,8 @@ impl Machine {
     /// Negotiate identity.
     pub(crate) fn lack(&mut self, target: Target, piece: Option<Piece>)
         requires stage { self.old.stage ≡ Stage.Go }
-        requires held { is_some (holding self.old target) ≡ true }
         ensures past { self.new.past ≡ self.old.past }
-        ensures asks { is_asking self.new ≡ true }
-        ensures kept { line self.new ≡ line self.old }
-        ensures goes { IsTrue (goes_on (way self.old.stage) (way self.new.stage)) }
+        ensures link { self.new.link ≡ self.old.link }
         ensures ties { (s : Setting) → Ties s self.old → Ties s self.new }
     {
         match piece {
@@ -220,17 +198,14 @@ impl Machine {
         requires few_links { self.old.links < 256 }
         requires few_heads { self.old.heads < 256 }
         requires stage { self.old.stage ≡ Stage.Go }
-        requires linked { IsLinked self.old }
-        requires links { IsOnlyLink (line self.old) (D.opened dialer.old) }
-        requires told { AreDialsOf (line self.old) (D.dials dialer.old) }
+        requires link { IsLinkAsDialed self.old.is_dialed self.old.link (D.opened dialer.old) }
+        requires closed { has_link (next_link self.old) (D.opened dialer.old) ≡ false }
+        requires fresh { IsUndialed (next_link self.old) (D.dials dialer.old) }
         ensures ties { (s : Setting) → s.request ≡ request.now → Ties s self.old
             → Ties s self.new }
         ensures dials { (s : Setting) (before : Option (List Dial)) → s.request ≡ request.now
             → Ties s self.old → D.dials dialer.old ≡ grown before (dials s self.old.past)
             → D.dials dialer.new ≡ grown before (dials s self.new.past) }
-        ensures driven { IsDriven self.old self.new
-            (D.opened dialer.old) (D.opened dialer.new) (D.dials dialer.new) }
-        ensures nearer { turns_left self.new < turns_left self.old }
     {
         if let Err(piece) = readiness(&self.proxy) {
             self.lack(Target::Proxy, piece);
