@@ -3,7 +3,7 @@
 
 ghost use Rattle.std.specs.Prelude.{◌≡◌, ◌≤◌, length, IfOk, IfSome, Some, option_map};
 ghost use Rattle.spaces.specs.Sites.{numbered};
-ghost use Rattle.auth_events.specs.Tables.{terms_number};
+ghost use Rattle.auth_events.specs.Tables.{terms_number, nonce_for};
 ghost use Rattle.auth_events.specs.Ledgers.{IsKept};
 
 use crate::controller::TermsRef;
@@ -141,7 +141,9 @@ impl Ledger {
         }
     }
 
-    fn name_space(&mut self, caller: u32, space: &Space) -> Result<u32, NoMemory>
+    /// Names a space that has no number; who keeps numbers of its own looks there first. An `Err`
+    /// changes nothing.
+    pub fn name_space(&mut self, caller: u32, space: &Space) -> Result<u32, NoMemory>
         requires may { MayNameSpace self.old.roster self.old.names space.now }
         requires new { space_number self.old.names space.now ≡ None }
         ensures number { IfOk result (λ number. numbered self.new.names.spaces number ≡ Some space.now) }
@@ -181,14 +183,26 @@ impl Ledger {
     {
         match numbers_of(&self.names, space, terms) {
             Some(numbers) => Ok(numbers),
-            None => self.name_terms(caller, space, terms),
+            None => {
+                let nonce = self.names.nonce_for(space, terms);
+                self.name_terms(caller, space, terms, nonce)
+            }
         }
     }
 
-    fn name_terms(&mut self, caller: u32, space: u32, terms: &Terms) -> Result<TermsRef, NoMemory>
+    /// Names terms that have no number, with the number of their nonce in the space's site, 0 where
+    /// it has none. An `Err` changes nothing.
+    pub fn name_terms(
+        &mut self,
+        caller: u32,
+        space: u32,
+        terms: &Terms,
+        nonce: u32,
+    ) -> Result<TermsRef, NoMemory>
         requires home { IsTrue (is_home self.old.names space terms.now) }
         requires may { MayNameTerms self.old.roster self.old.names space terms.now }
         requires new { terms_number self.old.names space terms.now ≡ None }
+        requires nonce { nonce ≡ nonce_for self.old.names space terms.now }
         ensures number { IfOk result (λ numbers. numbered self.new.names.terms numbers.terms ≡ Some (record { space = space; terms = terms.now; nonce = numbers.nonce })) }
         ensures told { OnOk result (told_of self.new.names self.new.made.items self.new.journal.entries ≡ told_terms caller self.old.names (told_of self.old.names self.old.made.items self.old.journal.entries) space terms.now) }
         ensures entries { self.new.journal ≡ self.old.journal }
@@ -197,7 +211,6 @@ impl Ledger {
         ensures names { OnErr result (self.new.names ≡ self.old.names) }
         ensures made { OnErr result (self.new.made.items ≡ self.old.made.items) }
     {
-        let nonce = self.names.nonce_for(space, terms);
         let copy = copy_terms(terms)?;
         self.made.reserve(1)?;
         let before = self.journal.entries().len() as u32;

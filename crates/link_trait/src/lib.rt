@@ -24,6 +24,7 @@ pub use answers::Answers;
 pub use calls::Calls;
 pub use dialer::{Dial, Dialed, Dialer, Traffic, Wrote};
 pub use links::{LinkName, Links, same_link};
+pub use log::LinkLog;
 pub use memory::{MemSink, MemSource};
 pub use prompts::{Ask, AskSeen, Asked, Prompter};
 pub use recorded::{RecordedDialer, stream_in};

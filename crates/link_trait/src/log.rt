@@ -1,5 +1,6 @@
 //! What a dialer in memory dialed, wrote and read, with its place in each open link's stream, so
-//! that a read needn't go over what was read before.
+//! that a read needn't go over what was read before. A dialer of one's own keeps one of these and
+//! takes the three lists that `Dialer` speaks of from it.
 
 ghost use Rattle.std.specs.Prelude.{◌≡◌, ◌+◌, ◌^◌, ◌<◌, [], ◌∷◌, ◌++◌, true, false, map, length, OnOk, OnErr};
 ghost use Rattle.link_trait.specs.declared.dialer.Traffic.TheVariants.{Sent, Received, Ended};
@@ -22,7 +23,7 @@ pub(crate) struct OpenLink {
 
 /// The dials, what went over the links, and the open links.
 #[derive(Drop)]
-pub(crate) struct LinkLog {
+pub struct LinkLog {
     alloc: Global,
     dials: Items<Dial>,
     traffic: Items<Traffic>,
@@ -85,7 +86,7 @@ fn close_link(open: &mut Vec<OpenLink>, name: LinkName)
 
 impl LinkLog {
     /// Nothing was dialed.
-    pub(crate) fn new(alloc: Global) -> LinkLog
+    pub fn new(alloc: Global) -> LinkLog
         ensures { result ≡ record { dials = []; traffic = []; opened = [] } }
     {
         LinkLog {
@@ -97,7 +98,7 @@ impl LinkLog {
     }
 
     /// The link was dialed, and is open.
-    pub(crate) fn dialed(&mut self, name: LinkName, to: &Origin) -> Result<(), NoMemory>
+    pub fn dialed(&mut self, name: LinkName, to: &Origin) -> Result<(), NoMemory>
         requires { has_dial name self.old.dials ≡ false }
         ensures ok { OnOk result (self.new ≡ record { dials = self.old.dials ++ record { link = name; to = to.now } ∷ []; traffic = self.old.traffic; opened = self.old.opened ++ name ∷ [] }) }
         ensures err { OnErr result (self.new ≡ self.old) }
@@ -111,7 +112,7 @@ impl LinkLog {
     }
 
     /// The bytes were written to the link.
-    pub(crate) fn sent(&mut self, name: LinkName, bytes: &[u8]) -> Result<(), NoMemory>
+    pub fn sent(&mut self, name: LinkName, bytes: &[u8]) -> Result<(), NoMemory>
         requires { has_link name self.old.opened ≡ true }
         ensures ok { OnOk result (self.new ≡ record { dials = self.old.dials; traffic = self.old.traffic ++ Sent name bytes.now ∷ []; opened = self.old.opened }) }
         ensures err { OnErr result (self.new ≡ self.old) }
@@ -123,7 +124,7 @@ impl LinkLog {
     }
 
     /// The bytes were read from the link.
-    pub(crate) fn received(&mut self, name: LinkName, bytes: &[u8]) -> Result<(), NoMemory>
+    pub fn received(&mut self, name: LinkName, bytes: &[u8]) -> Result<(), NoMemory>
         requires open { has_link name self.old.opened ≡ true }
         requires more { has_ended name self.old.traffic ≡ false }
         requires fit { length (heard_on name self.old.traffic) + length bytes.now < 2 ^ 64 }
@@ -139,7 +140,7 @@ impl LinkLog {
     }
 
     /// The link's end was read.
-    pub(crate) fn ended(&mut self, name: LinkName) -> Result<(), NoMemory>
+    pub fn ended(&mut self, name: LinkName) -> Result<(), NoMemory>
         requires { has_link name self.old.opened ≡ true }
         ensures ok { OnOk result (self.new ≡ record { dials = self.old.dials; traffic = self.old.traffic ++ Ended name ∷ []; opened = self.old.opened }) }
         ensures err { OnErr result (self.new ≡ self.old) }
@@ -150,7 +151,7 @@ impl LinkLog {
     }
 
     /// The link is closed.
-    pub(crate) fn closed(&mut self, name: LinkName)
+    pub fn closed(&mut self, name: LinkName)
         ensures log { self.new ≡ record { dials = self.old.dials; traffic = self.old.traffic; opened = without_link name self.old.opened } }
         ensures kept { IsKept self.new }
     {
@@ -158,7 +159,7 @@ impl LinkLog {
     }
 
     /// How many bytes were read from the open link.
-    pub(crate) fn place(&self, name: LinkName) -> usize
+    pub fn place(&self, name: LinkName) -> usize
         requires { has_link name self.now.opened ≡ true }
         ensures { result ≡ length (heard_on name self.now.traffic) }
     {

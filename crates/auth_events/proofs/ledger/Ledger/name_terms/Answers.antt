@@ -30,13 +30,13 @@ push_terms-requires-clause-few_nonces c =
     let name : TermsName = record { space = c.args.space; terms = c.args.terms.now; nonce = nonce_for l.names c.args.space c.args.terms.now } in
     let few = few_terms l.roster l.names l.made.items l.journal.entries kept name c.requires.may c.requires.new in
     let small = nonce_for-few l.names c.args.space c.args.terms.now (length l.roster.requests) kept.within few.1 in
-    omega (arith, small, c.nonce_for-nonce.ensures, l.few)))
+    omega (arith, small, c.requires.nonce, l.few)))
 
 pub invariant_of-self-2 : goal.invariant_of-self-2
 invariant_of-self-2 c =
     let l = c.args.self.now in
     let copied : c.in_ok-copy.copy ≡ c.args.terms.now = c.in_ok-copy.ensures in
-    let one : TermsName = record { space = c.args.space; terms = c.in_ok-copy.copy; nonce = c.nonce_for-nonce.result } in
+    let one : TermsName = record { space = c.args.space; terms = c.in_ok-copy.copy; nonce = c.args.nonce } in
     let name : NewName = record { kind = OfTerms; number = c.terms_len-number.result; caller = c.args.caller; before = length c.entries.result.now } in
     record {
       few = l.few;
@@ -45,7 +45,7 @@ invariant_of-self-2 c =
           (subst (λ t. IsTrue (is_home l.names c.args.space t)) (sym copied) c.requires.home)
           (subst (MayNameTerms l.roster l.names c.args.space) (sym copied) c.requires.may)
           (ap (terms_number l.names c.args.space) copied ∙ c.requires.new)
-          (c.nonce_for-nonce.ensures ∙ sym (ap (nonce_for l.names c.args.space) copied))
+          (c.requires.nonce ∙ sym (ap (nonce_for l.names c.args.space) copied))
           c.in_ok-push_terms.ensures.ok c.terms_len-number.ensures.len (ap length c.entries.ensures.entries)
           (c.push_reserved.ensures.items ∙ ap (λ made. made ++ name ∷ []) c.in_ok-reserve.ensures.items));
     }
@@ -53,8 +53,8 @@ invariant_of-self-2 c =
 pub returns-clause-number : goal.returns-clause-number
 returns-clause-number c =
     let l = c.args.self.now in
-    let one : TermsName = record { space = c.args.space; terms = c.in_ok-copy.copy; nonce = c.nonce_for-nonce.result } in
-    let named : Terms → Option TermsName = λ t. Some (record { space = c.args.space; terms = t; nonce = c.nonce_for-nonce.result }) in
+    let one : TermsName = record { space = c.args.space; terms = c.in_ok-copy.copy; nonce = c.args.nonce } in
+    let named : Terms → Option TermsName = λ t. Some (record { space = c.args.space; terms = t; nonce = c.args.nonce }) in
     let terms = ap (λ (t : Tables). t.terms) c.in_ok-push_terms.ensures.ok in
     let last : c.terms_len-number.result ≡ length l.names.terms + 1 = c.terms_len-number.ensures.len ∙ (ap length terms ∙ length-append l.names.terms (one ∷ [])) in
     ap (λ xs. numbered xs c.terms_len-number.result) terms
@@ -65,11 +65,11 @@ pub returns-clause-told : goal.returns-clause-told
 returns-clause-told c =
     let l = c.args.self.now in
     let copied : c.in_ok-copy.copy ≡ c.args.terms.now = c.in_ok-copy.ensures in
-    let one : TermsName = record { space = c.args.space; terms = c.in_ok-copy.copy; nonce = c.nonce_for-nonce.result } in
+    let one : TermsName = record { space = c.args.space; terms = c.in_ok-copy.copy; nonce = c.args.nonce } in
     let name : NewName = record { kind = OfTerms; number = c.terms_len-number.result; caller = c.args.caller; before = length c.entries.result.now } in
     ∥∥₁_elim l.kept (same_told_prop _ _) (λ kept. told_with_terms l.roster l.names l.made.items l.journal.entries c.push_terms.new.self c.push_reserved.new.self.items c.args.caller c.terms_len-number.result (length c.entries.result.now) one kept
     (ap (terms_number l.names c.args.space) copied ∙ c.requires.new)
-    (c.nonce_for-nonce.ensures ∙ sym (ap (nonce_for l.names c.args.space) copied))
+    (c.requires.nonce ∙ sym (ap (nonce_for l.names c.args.space) copied))
     c.in_ok-push_terms.ensures.ok c.terms_len-number.ensures.len (ap length c.entries.ensures.entries)
     (c.push_reserved.ensures.items ∙ ap (λ made. made ++ name ∷ []) c.in_ok-reserve.ensures.items)
     ∙ ap (told_terms c.args.caller l.names (told_of l.names l.made.items l.journal.entries) c.args.space) copied)
@@ -80,6 +80,6 @@ returns-clause-named c =
     let one : Terms → ℕ → TermsName = λ t n. record { space = c.args.space; terms = t; nonce = n } in
     let named : TermsName = record { space = c.args.space; terms = c.args.terms.now; nonce = nonce_for l.names c.args.space c.args.terms.now } in
     c.in_ok-push_terms.ensures.ok
-    ∙ (ap (λ t. with_terms l.names (one t c.nonce_for-nonce.result)) c.in_ok-copy.ensures
-    ∙ (ap (λ n. with_terms l.names (one c.args.terms.now n)) c.nonce_for-nonce.ensures
+    ∙ (ap (λ t. with_terms l.names (one t c.args.nonce)) c.in_ok-copy.ensures
+    ∙ (ap (λ n. with_terms l.names (one c.args.terms.now n)) c.requires.nonce
     ∙ sym (ap (λ (o : Option ℕ). cond (is_some o) l.names (with_terms l.names named)) c.requires.new)))
