@@ -3,7 +3,7 @@ use Rattle.std.proofs.Common.{◌≡◌, ℕ, ◌+◌, ◌≤◌, Bool, true, fa
 use Rattle.std.proofs.Math.Logic.{∥∥₁_elim, ∥∥₁_map}
 use Rattle.std.proofs.Props.{props}
 use Rattle.std.specs.Coded.{Coded, Coded-set, codes}
-use Rattle.std.specs.Prelude.{IfOk, IsTrue, OnErr, OnOk, Result, Ok, Err, is_some, option_map, reverse}
+use Rattle.std.specs.Prelude.{IfOk, IsTrue, OnErr, OnOk, Result, Ok, Err, is_some, option_map, reverse, unwrap_or}
 use Rattle.std.proofs.lemmas.List.{reverse-append}
 use Rattle.spaces.specs.declared.roster.Roster.{Roster}
 use Rattle.auth_events.specs.declared.journal.Entry.{Entry}
@@ -26,8 +26,9 @@ use Rattle.auth_events.proofs.Naming.{named_terms, terms_name_is}
 use Rattle.auth_events.proofs.LedgerLaws.{are_names, few}
 use Rattle.auth_events.proofs.Once.{IsLegalPast-prop}
 use Rattle.name_index.specs.declared.index.NameIndex.{NameIndex}
-use Rattle.name_index.specs.Found.{KnowsNames}
+use Rattle.name_index.specs.Found.{KnowsNames, first_of_site}
 use Rattle.auth_book.specs.declared.index.BookIndex.{BookIndex}
+use Rattle.auth_book.specs.SiteNumbers.{site_no, site_number}
 use Rattle.auth_book.specs.Indices.{StandsFor}
 use Rattle.auth_book.proofs.AddSpace.{stands_with_terms, stands_with_text}
 use Rattle.auth_book.specs.Fits.{AreOfBook, MayDecide, made, past_after}
@@ -99,6 +100,12 @@ module _ (names more : Tables) (space : ProtectionSpace) (unnamed : space_number
   last_is =
       ap (λ (ns : Tables). numbered ns.spaces (length ns.spaces)) is_more
       ∙ (ap (numbered (names.spaces ++ space ∷ [])) (pushed_length names.spaces space) ∙ numbered-last names.spaces space)
+
+  -- the number of its site
+  pub last_site : (first : ℕ) → first_of_site (with_space names space).spaces space.site ≡ Some first → first ≡ site_no more (length more.spaces)
+  last_site first known =
+      sym (ap (λ (o : Option ProtectionSpace). unwrap_or (option_map (λ (one : ProtectionSpace). site_number more one.site) o) 0) last_is
+      ∙ (ap (λ (ns : Tables). unwrap_or (first_of_site ns.spaces space.site) 0) is_more ∙ ap (λ (o : Option ℕ). unwrap_or o 0) known))
 
 module _ (roster : Roster) (names : Tables) (log : List NewName) (entries : List Entry) (kept : ∥ IsKept roster names log entries ∥₁) (index : BookIndex) (stands : ∥ StandsFor index roster names (reverse entries) ∥₁) where
   legal_now : IsLegalPast roster names (reverse entries)

@@ -1,5 +1,5 @@
 //! A book that records in a ledger, and decides by its index. The journal is kept for those who read
-//! it; no reply is looked for in it, and a name that has its number is looked up in a map.
+//! it; no reply is looked for in it, and no name among the names: their numbers are found in maps.
 
 ghost use Rattle.std.specs.Prelude.{◌≡◌, ◌≤◌, ◌<◌, ◌*◌, IsTrue, Some, is_some, length, option_map, reverse};
 ghost use Rattle.spaces.specs.Sites.{numbered};
@@ -151,9 +151,9 @@ impl AuthBook {
         let next = self.ledger.names().spaces_len() + 1;
         self.index.prepare(next, &space.site().partition)?;
         self.gifts.reserve_space(next)?;
-        self.numbers.note_space(self.ledger.names(), space)?;
-        let number = self.ledger.space_no(caller, space)?;
-        self.index.add_space(self.ledger.names());
+        let site = self.numbers.note_space(self.ledger.names(), space)?;
+        let number = self.ledger.name_space(caller, space)?;
+        self.index.add_space_at(self.ledger.names(), site);
         Ok(number)
     }
 
@@ -175,8 +175,10 @@ impl AuthBook {
         ensures names { OnErr result (self.new.ledger.names ≡ self.old.ledger.names) }
         ensures made { OnErr result (self.new.ledger.made.items ≡ self.old.ledger.made.items) }
     {
-        self.numbers.note_terms(self.ledger.names(), space, terms)?;
-        self.ledger.terms_no(caller, space, terms)
+        let nonce = self.numbers.nonce_for(self.ledger.names(), space, terms)?;
+        self.numbers
+            .note_terms(self.ledger.names(), space, terms, nonce)?;
+        self.ledger.name_terms(caller, space, terms, nonce)
     }
 }
 

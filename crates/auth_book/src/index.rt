@@ -71,6 +71,7 @@ impl BookIndex {
     ghost use Rattle.spaces.specs.Sites.{numbered};
     ghost use Rattle.auth_events.specs.Tables.{AreNames, Tables, no_names, with_space};
     ghost use Rattle.auth_events.specs.Book.{IsLegalPast};
+    ghost use Rattle.auth_book.specs.SiteNumbers.{site_no};
     ghost use Rattle.auth_book.specs.Parts.{part_of};
     ghost use Rattle.auth_book.specs.Indices.{StandsFor, part_no, space_row};
 
@@ -132,9 +133,30 @@ impl BookIndex {
         ensures requests { self.new.requests ≡ self.old.requests }
         ensures epochs { self.new.epochs ≡ self.old.epochs }
     {
-        let space = names.spaces_len();
-        let site = site_no(names, space);
-        let partition = self.part_no(names, space);
+        let site = site_no(names, names.spaces_len());
+        self.add_space_at(names, site);
+    }
+
+    /// The same where the number of the space's site is known.
+    pub(crate) fn add_space_at(&mut self, names: &Names, site: u32)
+        requires site { site ≡ site_no names.now (length names.now.spaces) }
+        requires count { length names.now.spaces ≡ length self.old.spaces.items + 1 }
+        requires prepared { self.old.prepared ≡ length names.now.spaces }
+        requires record { IfSome (numbered names.now.spaces (length names.now.spaces))
+            (λ space. IsTrue (is_some (part_of self.old.partitions space.site.partition))) }
+        ensures stands { (roster : Roster) (before : Tables) (space : ProtectionSpace)
+            (past : List Entry) → names.now ≡ with_space before space
+            → AreNames before → IsLegalPast roster before past → StandsFor self.old roster before past
+            → StandsFor self.new roster names.now past }
+        ensures row { self.new.spaces.items ≡ self.old.spaces.items
+            ++ space_row names.now self.old.partitions [] (length names.now.spaces) ∷ [] }
+        ensures partitions { self.new.partitions ≡ self.old.partitions }
+        ensures prompts { self.new.prompts ≡ self.old.prompts }
+        ensures led { self.new.led ≡ self.old.led }
+        ensures requests { self.new.requests ≡ self.old.requests }
+        ensures epochs { self.new.epochs ≡ self.old.epochs }
+    {
+        let partition = self.part_no(names, names.spaces_len());
         self.spaces.push_reserved(SpaceRow {
             site,
             givings: 0,

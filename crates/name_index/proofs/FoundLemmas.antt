@@ -42,6 +42,24 @@ number_more t xs y n found = at (position_from t 0 xs) refl
     at None none = last (t y) refl (sym (ap (option_map suc) (position_last t 0 xs y none)) ∙ found)
     at (Some k) is = inl (ap (option_map suc) (is ∙ sym (position_more t 0 k xs y is)) ∙ found)
 
+-- what passes keeps its number
+pub number_known : {X : Type 0} (t : X → Bool) (xs : List X) (y : X) (n : ℕ) → number_of t xs ≡ Some n → number_of t (xs ++ y ∷ []) ≡ Some n
+number_known t xs y n found = at (position_from t 0 xs) refl
+  where
+    at : (o : Option ℕ) → position_from t 0 xs ≡ o → number_of t (xs ++ y ∷ []) ≡ Some n
+    at None none = absurd (let both : None ≡ Some n = sym (ap (option_map suc) none) ∙ found in cc)
+    at (Some k) is = ap (option_map suc) (position_more t 0 k xs y is) ∙ (sym (ap (option_map suc) is) ∙ found)
+
+-- and where none passes, one that does at the end gets the next number
+pub number_next : {X : Type 0} (t : X → Bool) (xs : List X) (y : X) → number_of t xs ≡ None → t y ≡ true → number_of t (xs ++ y ∷ []) ≡ Some (length xs + 1)
+number_next t xs y none passes = at (position_from t 0 xs) refl
+  where
+    at : (o : Option ℕ) → position_from t 0 xs ≡ o → number_of t (xs ++ y ∷ []) ≡ Some (length xs + 1)
+    at None is =
+        let next : suc (0 + length xs) ≡ length xs + 1 = omega arith in
+        ap (option_map suc) (position_last t 0 xs y is) ∙ (ap (λ b. option_map suc (cond b (Some (0 + length xs)) None)) passes ∙ ap Some next)
+    at (Some k) is = absurd (let both : Some (suc k) ≡ None = sym (ap (option_map suc) is) ∙ none in cc)
+
 module _ {K A X : Type 0} (cmp : K → K → Ordering) (IsKeyOf : K → A → Type 0) (test : A → X → Bool) where
   -- WHAT IS READ
 
@@ -92,6 +110,17 @@ module _ {K A X : Type 0} (cmp : K → K → Ordering) (IsKeyOf : K → A → Ty
               let same : is_eq (cmp key k) ≡ true = equal key k asked of_it (subst (IsKeyOf k) (one x last.0) of_x) in
               updates.0 k ∙ ap (λ b. cond b (Some n) (get cmp old k)) same ∙ ap Some (next ∙ sym last.1)
         ]
+
+  -- what has its number keeps it
+  pub kept : (map : BTreeMap K ℕ) (things : List X) (asked : A) (n : ℕ) → Finds cmp IsKeyOf test map things → number_of (test asked) things ≡ Some n → (thing : X) → ((x : A) → test x thing ≡ true → x ≡ asked)
+      → Finds cmp IsKeyOf test map (things ++ thing ∷ [])
+  kept map things asked n finds known thing one k x m of_x found =
+      elim (number_more (test x) things thing m found) [
+        | inl before ↦ finds k x m of_x before
+        | inr last ↦
+            let its : number_of (test x) things ≡ Some n = subst (λ a. number_of (test a) things ≡ Some n) (sym (one x last.0)) known in
+            finds k x n of_x its ∙ (sym (number_known (test x) things thing n its) ∙ found)
+      ]
 
   -- a map of nothing
   pub finds_nothing : (map : BTreeMap K ℕ) → Finds cmp IsKeyOf test map []

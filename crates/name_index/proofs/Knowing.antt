@@ -2,7 +2,7 @@
 use Rattle.std.proofs.Common.{◌≡◌, ◌∙◌, ℕ, ◌+◌, ◌==◌, Bool, true, false, ◌&&◌, List, [], ◌∷◌, ◌++◌, length, Option, Some, None, refl, ap, sym, subst, arith, BTreeMap}
 use Rattle.std.specs.Prelude.{IsTrue}
 use Rattle.std.specs.BTreeMap.{IsUnchanged, Updates, get}
-use Rattle.std.specs.Coded.{×_prop, Coded, Coded-set, codes}
+use Rattle.std.specs.Coded.{Coded, Coded-set, codes}
 use Rattle.std.specs.Ordering.{is_eq}
 use Rattle.std.specs.declared.cmp.Ordering.{Ordering}
 use Rattle.spaces.specs.ProtectionSpaces.{ProtectionSpace}
@@ -14,14 +14,17 @@ use Rattle.auth_events.specs.Tables.{Tables, is_that_terms, space_number, terms_
 use Rattle.auth_events.proofs.Numbers.{and_left, and_right, both}
 use Rattle.auth_events.proofs.Same.{number_refl, number_same, space_refl, space_same, terms_refl, terms_same}
 use Rattle.space_keys.specs.declared.keys.SpaceKey.{SpaceKey}
-use Rattle.space_keys.specs.Keys.{IsKeyOfSpace, space_cmp}
+use Rattle.space_keys.specs.Keys.{IsKeyOfSite, IsKeyOfSpace, site_cmp, space_cmp}
 use Rattle.space_keys.proofs.KeyLemmas.{same_space_keys}
 use Rattle.name_index.specs.declared.terms_key.TermsKey.{TermsKey}
 use Rattle.name_index.specs.TermsKeys.{IsKeyOfTerms, terms_cmp}
 use Rattle.name_index.specs.declared.index.NameIndex.{NameIndex}
 use Rattle.name_index.specs.Found.{Finds, KnowsNames, checked}
 use Rattle.name_index.proofs.TermsKeyLemmas.{same_terms_keys}
+use Rattle.name_index.specs.NonceKeys.{IsKeyOfNonce, nonce_cmp}
 use Rattle.name_index.proofs.FoundLemmas.{found_is, grown, noted}
+use Rattle.name_index.proofs.Sites.{is_of_that_site}
+use Rattle.name_index.proofs.Nonces.{is_asked_nonce}
 
 -- SPACES
 
@@ -93,5 +96,9 @@ finds-prop : {K A X : Type 0} (cmp : K → K → Ordering) (IsKeyOf : K → A �
 finds-prop cmp IsKeyOf test map things f g = λ i key asked n of_it found. Coded-set code_of_number (get cmp map key) (Some n) (f key asked n of_it found) (g key asked n of_it found) i
 
 pub KnowsNames-prop : (index : NameIndex) (names : Tables) → IsProp (KnowsNames index names)
-KnowsNames-prop index names =
-    ×_prop (finds-prop space_cmp IsKeyOfSpace is_that_space index.spaces names.spaces) (finds-prop terms_cmp IsKeyOfTerms are_those_terms index.terms names.terms)
+KnowsNames-prop index names f g = λ i. (
+  finds-prop space_cmp IsKeyOfSpace is_that_space index.spaces names.spaces f.0 g.0 i,
+  finds-prop terms_cmp IsKeyOfTerms are_those_terms index.terms names.terms f.1 g.1 i,
+  finds-prop site_cmp IsKeyOfSite is_of_that_site index.sites names.spaces f.2 g.2 i,
+  finds-prop nonce_cmp IsKeyOfNonce is_asked_nonce index.nonces names.nonces f.3 g.3 i,
+)

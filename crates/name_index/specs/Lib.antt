@@ -1,2 +1,3 @@
 pub mod TermsKeys
+pub mod NonceKeys
 pub mod Found

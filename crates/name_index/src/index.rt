@@ -1,16 +1,17 @@
-//! The maps. A number that a map has is looked at before it is believed: a thing may be noted with the
-//! number that it will have, and then get no name for want of memory.
+//! The maps. What is noted gets its name afterwards, so a map may have a number more than is named.
 
-ghost use Rattle.std.specs.Prelude.{◌≡◌, ◌<◌, ℕ, IfOk, OnOk, None, is_some, option_copied, option_map, length};
-ghost use Rattle.spaces.specs.Sites.{same_space};
-ghost use Rattle.auth_events.specs.Tables.{is_that_terms, no_names, space_number, terms_number, with_space, with_terms};
-ghost use Rattle.name_index.specs.Found.{KnowsNames, checked};
+ghost use Rattle.std.specs.Prelude.{◌≡◌, ℕ, IfOk, OnOk, None, Some};
+ghost use Rattle.auth_events.specs.Tables.{no_names, nonce_for, nonce_number, space_number, terms_number, with_space, with_terms};
+ghost use Rattle.name_index.specs.Found.{KnowsNames, first_of_site};
 
+use crate::checked::{nonce_checked, space_checked, terms_checked};
+use crate::nonce_key::{NonceKey, key_of_nonce};
+use crate::noting::{note_nonce, note_site};
 use crate::terms_key::{TermsKey, key_of_terms};
 use auth_events::Names;
 use auth_text::NoMemory;
-use space_keys::{SpaceKey, key_of_space};
-use spaces::{Space, Terms, same_space, same_terms};
+use space_keys::{SiteKey, SpaceKey, key_of_space};
+use spaces::{Site, Space, Terms};
 use std::alloc::Global;
 use std::collections::BTreeMap;
 
@@ -18,30 +19,10 @@ use std::collections::BTreeMap;
 #[derive(Drop)]
 pub struct NameIndex {
     alloc: Global,
+    sites: BTreeMap<SiteKey, u32>,
     spaces: BTreeMap<SpaceKey, u32>,
     terms: BTreeMap<TermsKey, u32>,
-}
-
-/// The number, where the space of that number is this one.
-fn space_checked(names: &Names, space: &Space, number: Option<u32>) -> Option<u32>
-    ensures { result ≡ checked (λ named. same_space named space.now) names.now.spaces number }
-{
-    let number = number?;
-    match names.space(number) {
-        Some(named) if same_space(named, space) => Some(number),
-        _ => None,
-    }
-}
-
-/// The number, where the terms of that number are these of the space.
-fn terms_checked(names: &Names, space: u32, terms: &Terms, number: Option<u32>) -> Option<u32>
-    ensures { result ≡ checked (is_that_terms space terms.now) names.now.terms number }
-{
-    let number = number?;
-    match names.terms(number) {
-        Some(named) if named.space == space && same_terms(&named.terms, terms) => Some(number),
-        _ => None,
-    }
+    nonces: BTreeMap<NonceKey, u32>,
 }
 
 impl NameIndex {
@@ -51,8 +32,10 @@ impl NameIndex {
     {
         NameIndex {
             alloc,
+            sites: BTreeMap::new(alloc),
             spaces: BTreeMap::new(alloc),
             terms: BTreeMap::new(alloc),
+            nonces: BTreeMap::new(alloc),
         }
     }
 
@@ -81,28 +64,61 @@ impl NameIndex {
         Ok(terms_checked(names, space, terms, number))
     }
 
-    /// Notes the next number for the space, which has none. The names that it knew it still knows, also
-    /// after an `Err`.
-    pub fn note_space(&mut self, names: &Names, space: &Space) -> Result<(), NoMemory>
+    /// The number of the site's nonce, or the next one.
+    fn nonce_number(&self, names: &Names, site: &Site, text: &[u8]) -> Result<u32, NoMemory>
+        requires { KnowsNames self.now names.now }
+        ensures { IfOk result (λ number. number ≡ nonce_number names.now site.now text.now) }
+    {
+        let key = key_of_nonce(self.alloc, site, text)?;
+        let number = self.nonces.get(&key).copied();
+        let number = nonce_checked(names, site, text, number);
+        Ok(number.unwrap_or(names.nonces_len() + 1))
+    }
+
+    /// The number that the nonce of the terms has, or the next one. It is 0 where the space has no name.
+    pub fn nonce_for(&self, names: &Names, space: u32, terms: &Terms) -> Result<u32, NoMemory>
+        requires { KnowsNames self.now names.now }
+        ensures { IfOk result (λ nonce. nonce ≡ nonce_for names.now space terms.now) }
+    {
+        match names.space(space) {
+            Some(named) => self.nonce_number(names, named.site(), terms.nonce.as_slice()),
+            None => Ok(0),
+        }
+    }
+
+    /// Notes the next number for the space, which has none. It answers the number that the first space of
+    /// its site then has. The names that it knew it still knows, also after an `Err`.
+    pub fn note_space(&mut self, names: &Names, space: &Space) -> Result<u32, NoMemory>
         requires knows { KnowsNames self.old names.now }
         requires new { space_number names.now space.now ≡ None }
         ensures knows { KnowsNames self.new names.now }
         ensures next { OnOk result (KnowsNames self.new (with_space names.now space.now)) }
+        ensures first { IfOk result (λ number.
+            first_of_site (with_space names.now space.now).spaces space.now.site ≡ Some number) }
     {
+        let first = note_site(self.alloc, &mut self.sites, names, space)?;
         let key = key_of_space(self.alloc, space)?;
         self.spaces.insert(key, names.spaces_len() + 1)?;
-        Ok(())
+        Ok(first)
     }
 
-    /// Notes the next number for the space's terms, which have none. The names that it knew it still
-    /// knows, also after an `Err`.
-    pub fn note_terms(&mut self, names: &Names, space: u32, terms: &Terms) -> Result<(), NoMemory>
+    /// Notes the next number for the space's terms, which have none, and the number of their nonce. The
+    /// names that it knew it still knows, also after an `Err`.
+    pub fn note_terms(
+        &mut self,
+        names: &Names,
+        space: u32,
+        terms: &Terms,
+        nonce: u32,
+    ) -> Result<(), NoMemory>
         requires knows { KnowsNames self.old names.now }
         requires new { terms_number names.now space terms.now ≡ None }
+        requires nonce { nonce ≡ nonce_for names.now space terms.now }
         ensures knows { KnowsNames self.new names.now }
-        ensures next { OnOk result ((nonce : ℕ) → KnowsNames self.new (with_terms names.now
+        ensures next { OnOk result (KnowsNames self.new (with_terms names.now
             (record { space = space; terms = terms.now; nonce = nonce }))) }
     {
+        note_nonce(self.alloc, &mut self.nonces, names, space, terms, nonce)?;
         let key = key_of_terms(self.alloc, space, terms)?;
         self.terms.insert(key, names.terms_len() + 1)?;
         Ok(())
