@@ -1,5 +1,5 @@
 -- The heads of a context go over one link, and each token answers the peer's last one there.
-use Rattle.std.proofs.Common.{◌≡◌, ◌⊎◌, inl, inr, ℕ, Bool, true, false, ◌&&◌, ◌==◌, IsTrue, List, [], ◌∷◌, reverse, Option, Some, None, is_some, is_none, option_and_then, option_map, unwrap_or, refl, sym, ap, ◌∙◌, subst, if◌then◌else◌}
+use Rattle.std.proofs.Common.{◌≡◌, ◌⊎◌, inl, inr, ℕ, Bool, true, false, not, ◌&&◌, ◌==◌, IsTrue, List, [], ◌∷◌, reverse, Option, Some, None, is_some, is_none, option_and_then, option_map, unwrap_or, refl, sym, ap, ◌∙◌, subst, if◌then◌else◌}
 use Rattle.std.specs.Prelude.{find}
 use Rattle.std.proofs.lemmas.Bool.{false≢true, eq-eqb}
 use Rattle.spaces.specs.declared.site.Site.{Site}
@@ -71,16 +71,20 @@ module _ (P : Option Held → Type 0) (nothing : P None) (given : (gift : Gift) 
 
 -- THE LINK OF EACH CONTEXT
 
+abbrev pub is_head : Event → Bool
+is_head (Headed link bytes) = true
+is_head _ = false
+
 -- the link of the last head
 abbrev last_head : List Event → ℕ
 last_head [] = 0
 last_head (Headed link bytes ∷ past) = link
 last_head (event ∷ past) = last_head past
 
-abbrev link_held : Option Held → Option ℕ
+abbrev pub link_held : Option Held → Option ℕ
 link_held o = option_and_then (λ context. context.link) (context_of o)
 
-abbrev IsAt : ℕ → Option Held → Type 0
+abbrev pub IsAt : ℕ → Option Held → Type 0
 IsAt link o = IsOnLink link (link_held o)
 
 kept_at : (link : ℕ) (f : Held → Option Held) → ((h : Held) → IsAt link (Some h) → IsAt link (f h)) → (o : Option Held) → IsAt link o → IsAt link (option_and_then f o)
@@ -96,7 +100,7 @@ stepped_at link (Token token) h p = p
 stepped_at link NoMechanism h p = if_at link (is_some h.context) (Some h) None p tt
 stepped_at link _ h p = p
 
-headed_at : (link : ℕ) (o : Option Held) → IsAt link (option_map (held_headed link) o)
+pub headed_at : (link : ℕ) (o : Option Held) → IsAt link (option_map (held_headed link) o)
 headed_at link None = tt
 headed_at link (Some h) = at h.context
   where
@@ -108,31 +112,30 @@ lost_at : (link : ℕ) (o : Option Held) → IsAt link (option_map held_lost o)
 lost_at link None = tt
 lost_at link (Some h) = tt
 
+-- an event that is no head binds no context
+pub at_after : (n : ℕ) (s : Setting) (t : Target) (past : List Event) (event : Event) → IsTrue (not (is_head event)) → IsAt n (held s past t) → IsAt n (held s (event ∷ past) t)
+at_after n s t past (Called call reply) none p = called (IsAt n) tt (λ gift terms epoch. tt) s t past call reply (held s past t) p
+at_after n s t past (Drew target nonce count epoch) none p =
+    if_at n (same_target target t) (option_and_then (held_drew epoch) (held s past t)) (held s past t)
+    (kept_at n (held_drew epoch) (λ h q. if_at n (unwrap_or h.preemptive epoch == epoch) (Some h) None q tt) (held s past t) p) p
+at_after n s t past (Stepped target step) none p =
+    if_at n (same_target target t) (option_and_then (held_stepped step) (held s past t)) (held s past t) (kept_at n (held_stepped step) (stepped_at n step) (held s past t) p) p
+at_after n s t past (Headed link bytes) none p = absurd (false≢true none)
+at_after n s t past (Replied link reply) none p = kept_at n (held_replied s t reply) (λ h q. if_at n (challenges_target s reply t && is_none (deciding s reply t h)) None (Some h) tt q) (held s past t) p
+at_after n s t past (LinkLost link) none p = lost_at n (held s past t)
+at_after n s t past _ none p = p
+
 -- each context that is bound is bound to the link of the last head
 at_last : (s : Setting) (past : List Event) (t : Target) → IsAt (last_head past) (held s past t)
 at_last s [] t = tt
-at_last s (Called call reply ∷ past) t = called (IsAt (last_head past)) tt (λ gift terms epoch. tt) s t past call reply (held s past t) (at_last s past t)
-at_last s (Drew target nonce count epoch ∷ past) t =
-    if_at (last_head past) (same_target target t) (option_and_then (held_drew epoch) (held s past t)) (held s past t)
-    (kept_at (last_head past) (held_drew epoch) (λ h p. if_at (last_head past) (unwrap_or h.preemptive epoch == epoch) (Some h) None p tt) (held s past t) (at_last s past t)) (at_last s past t)
-at_last s (Stepped target step ∷ past) t =
-    if_at (last_head past) (same_target target t) (option_and_then (held_stepped step) (held s past t)) (held s past t)
-    (kept_at (last_head past) (held_stepped step) (stepped_at (last_head past) step) (held s past t) (at_last s past t)) (at_last s past t)
 at_last s (Headed link bytes ∷ past) t = headed_at link (held s past t)
-at_last s (Replied link reply ∷ past) t =
-    kept_at (last_head past) (held_replied s t reply) (λ h p. if_at (last_head past) (challenges_target s reply t && is_none (deciding s reply t h)) None (Some h) tt p) (held s past t) (at_last s past t)
-at_last s (LinkLost link ∷ past) t = lost_at (last_head past) (held s past t)
-at_last s (_ ∷ past) t = at_last s past t
+at_last s (event ∷ past) t = at_after (last_head past) s t past event refl (at_last s past t)
 
 -- A HEAD
 
 abbrev link_of : Event → ℕ
 link_of (Headed link bytes) = link
 link_of _ = 0
-
-abbrev is_head : Event → Bool
-is_head (Headed link bytes) = true
-is_head _ = false
 
 -- a head goes over the bound link, or the one that was dialed last, and starts no context
 pub record IsHeadedBy (s : Setting) (past : List Event) (link : ℕ) (bytes : List ℕ) : Type 0 where
@@ -151,7 +154,7 @@ headed_by s past link bytes run = at (go s past) (way s past) (way_from s past (
     at : (w : Want) → Way s past w → Follows s past w (Headed link bytes) → IsHeadedBy s past link bytes
     at w (starts t h e same) f = absurd (subst (λ x. Follows s past x (Headed link bytes)) same f)
     at w (loses on e k same) f = absurd (false≢true (sym (ap is_head (subst (λ x. Follows s past x (Headed link bytes)) same f))))
-    at w (dials none same) f = absurd (subst (λ x. Follows s past x (Headed link bytes)) same f)
+    at w (dials free none same) f = absurd (subst (λ x. Follows s past x (Headed link bytes)) same f)
     at w (draws t h name e n same) f = absurd (subst (λ x. Follows s past x (Headed link bytes)) same f)
     at w (writes p q same) f = let e = subst (λ x. Follows s past x (Headed link bytes)) same f in record { over = ap link_of e; text = ap bytes_of e; no_proxy = p; no_server = q }
 

@@ -73,7 +73,7 @@ all_calls (_ ∷ past) = let h = all_calls past in omega (arith, h)
 dial_free : (s : Setting) (past : List Event) (link : ℕ) (w : Want) → Way s past w → Follows s past w (Dialed link) → has_link past ≡ false
 dial_free s past link w (starts t h e same) f = absurd (subst (λ x. Follows s past x (Dialed link)) same f)
 dial_free s past link w (loses on e k same) f = let clash : Dialed link ≡ LinkLost on = subst (λ x. Follows s past x (Dialed link)) same f in cc
-dial_free s past link w (dials none same) f = none
+dial_free s past link w (dials free none same) f = none
 dial_free s past link w (draws t h name e n same) f = absurd (subst (λ x. Follows s past x (Dialed link)) same f)
 dial_free s past link w (writes p q same) f = let clash = subst (λ x. Follows s past x (Dialed link)) same f in absurd (false≢true (ap is_head clash))
   where

@@ -20,3 +20,4 @@ pub mod Suiting
 pub mod Readings
 pub mod Offers
 pub mod Hearing
+pub mod LastLinks

@@ -201,7 +201,7 @@ draw_of s past target nonce run wanted = at (row s past run)
     by_way w (draws t h name held_now found same) e = (t, h, name, held_now, found, ap nonce_in (sym same ∙ e))
     by_way w (starts t h held_now same) e = no w (ap is_draw same) e
     by_way w (loses link b k same) e = no w (ap is_draw same) e
-    by_way w (dials none same) e = no w (ap is_draw same) e
+    by_way w (dials free none same) e = no w (ap is_draw same) e
     by_way w (writes p q same) e = no w (ap is_draw same) e
 
     at_list : (o : Outcome) (cs : List (Option Call)) → next_closing o cs ≡ Draws target nonce → IsDrawOf s past nonce

@@ -32,7 +32,7 @@ use Rattle.trace_rule.proofs.Drops.{drops_bound, drops_plain}
 use Rattle.trace_rule.proofs.Gains.{is_plain}
 use Rattle.trace_rule.proofs.Reasons.{IsClosingStep, closes_at, closing_step, is_at_end, reason}
 use Rattle.trace_rule.proofs.Reasons.IsClosingStep.{by_call, by_outcome}
-use Rattle.trace_laws.specs.Lengths.{choices, names_terms, terms_given, terms_named}
+use Rattle.trace_laws.specs.Lengths.{choices, terms_given, terms_named}
 use Rattle.trace_laws.proofs.Choices.{balanced, none_dropped, within}
 use Rattle.trace_laws.proofs.Counted.{count_of, one_if}
 

@@ -62,7 +62,7 @@ start_from s past t name identity run wanted = at (row s past run)
         let both : Steps u (Start (spn s u) (identity_held s h)) ≡ Steps t (Start name identity) = sym same ∙ e in
         (h, subst (λ x. held s past x ≡ Some h) (ap target_in both) held_now, sym (ap identity_in both))
     by_way w (loses link b k same) e = no w (ap is_start same) e
-    by_way w (dials none same) e = no w (ap is_start same) e
+    by_way w (dials free none same) e = no w (ap is_start same) e
     by_way w (draws u h named held_now n same) e = no w (ap is_start same) e
     by_way w (writes p q same) e = no w (ap is_start same) e
 

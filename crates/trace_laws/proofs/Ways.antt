@@ -19,7 +19,7 @@ HasNoStart s past t = option_and_then (start_for s t) (held s past t) ≡ None
 pub data Way (s : Setting) (past : List Event) (w : Want) : Type 0 where
   starts : (t : Target) → (h : Held) → held s past t ≡ Some h → w ≡ Steps t (Start (spn s t) (identity_held s h)) → Way s past w
   loses : (link : ℕ) → bound s past ≡ Some link → stays past link ≡ false → w ≡ Loses link → Way s past w
-  dials : has_link past ≡ false → w ≡ Dials (links past + 1) → Way s past w
+  dials : bound s past ≡ None → has_link past ≡ false → w ≡ Dials (links past + 1) → Way s past w
   draws : (t : Target) → (h : Held) → (name : TermsName) → held s past t ≡ Some h → s.terms_of h.terms ≡ Some name → w ≡ Draws t name.nonce → Way s past w
   writes : HasNoStart s past Proxy → HasNoStart s past Server → w ≡ Writes (head_link s past) (head_text s past) → Way s past w
 
@@ -54,12 +54,12 @@ loss_way s past = at (bound s past) refl
     at (Some link) e = by link e (stays past link) refl
 
 dial_way : (s : Setting) (past : List Event) → WayIf s past (dial_for s past)
-dial_way s past = at (is_none (bound s past)) (has_link past) refl
+dial_way s past = at (bound s past) (has_link past) refl refl
   where
-    at : (a b : Bool) → has_link past ≡ b → WayIf s past (if a && not b then Some (Dials (links past + 1)) else None)
-    at true false e = dials e refl
-    at true true e = tt
-    at false b e = tt
+    at : (a : Option ℕ) (b : Bool) → bound s past ≡ a → has_link past ≡ b → WayIf s past (if is_none a && not b then Some (Dials (links past + 1)) else None)
+    at None false free e = dials free e refl
+    at None true free e = tt
+    at (Some link) b free e = tt
 
 draw_way : (s : Setting) (past : List Event) (t : Target) → WayIf s past (option_and_then (draw_for s past t) (held s past t))
 draw_way s past t = at (held s past t) refl

@@ -5,3 +5,4 @@ pub mod Endings
 pub mod Sources
 pub mod Answering
 pub mod Naming
+pub mod LastLinks

@@ -8,6 +8,7 @@ mod bindings;
 mod endings;
 mod homes;
 mod lengths;
+mod links;
 mod naming;
 mod sources;
 
@@ -16,6 +17,9 @@ pub use bindings::{pasts_keep_to_their_link, tokens_keep_to_their_link};
 pub use endings::{cuts_are_allowed, losses_are_allowed, prompts_are_settled, traces_are_whole};
 pub use homes::heads_carry_their_own;
 pub use lengths::{choices_are_few, events_are_few, pasts_leave_room, terms_are_few};
+pub use links::{
+    bound_links_are_last, heads_go_over_the_last, later_links_are_unread, replies_come_on_the_last,
+};
 pub use naming::{
     drawn_nonces_are_known, held_is_readable, next_terms_are_at_home, offered_terms_are_at_home,
     renewed_terms_are_at_home,
