@@ -1,25 +1,23 @@
 -- The choice of a challenge.
-use Rattle.std.proofs.Common.{◌≡◌, ℕ, false, List, [], ◌∷◌, ◌++◌, Option, Some, None, ap, ◌∙◌, if◌then◌else◌, subst, drop, map, unwrap_or, option_map}
+use Rattle.std.proofs.Common.{◌≡◌, false, List, [], ◌∷◌, ◌++◌, Option, Some, None, ap, ◌∙◌, if◌then◌else◌, subst, drop, map, unwrap_or, option_map}
 use Rattle.spaces.specs.declared.site.Target.{Target}
 use Rattle.spaces.specs.declared.site.Target.TheVariants.{Server, Proxy}
 use Rattle.spaces.specs.Sites.{same_target}
 use Rattle.auth_events.specs.declared.journal.Gift.{Gift}
-use Rattle.auth_events.specs.declared.journal.Call.TheVariants.{Select, End as CallEnd}
+use Rattle.auth_events.specs.declared.journal.Call.TheVariants.{End as CallEnd}
 use Rattle.wire_head.specs.declared.reply.Reply.{Reply}
 use Rattle.auth_runs.specs.declared.event.Event.{Event}
 use Rattle.auth_runs.specs.declared.event.Outcome.TheVariants.{Refused}
 use Rattle.auth_runs.specs.declared.event.Why.TheVariants.{NoChallenge}
-use Rattle.trace_rule.specs.Settings.{Setting, target_is}
+use Rattle.trace_rule.specs.Settings.{Setting}
 use Rattle.trace_rule.specs.Challenges.{Offer, challenged, challenges_target, supported, best}
 use Rattle.trace_rule.specs.Holding.{carried, negotiates}
-use Rattle.trace_rule.specs.Moves.{select, choose, known, space_offered, terms_offered}
-use Rattle.trace_rule.specs.Closings.{carried_out, closings, closings_made, note_for, is_challenged}
-use Rattle.trace_rule.specs.Moves.Want.{Calls}
-use Rattle.trace_rule.specs.Moves.Move.{Goes}
+use Rattle.trace_rule.specs.Moves.{select, choose, known}
+use Rattle.trace_rule.specs.Closings.{closings, closings_made, note_for, is_challenged}
 use Rattle.request_machine.specs.declared.stage.Stage.{Stage}
-use Rattle.request_machine.specs.declared.stage.Stage.TheVariants.{Go, Learn, Select as Selecting, Choose, Close}
+use Rattle.request_machine.specs.declared.stage.Stage.TheVariants.{Go, Learn, Choose, Close}
 use Rattle.request_machine.specs.declared.stage.Piece.{Piece}
-use Rattle.request_machine.specs.Kept.{Kept, IsKept, IsChosen, IsChallenged, IsOfTarget, Ties, IsStage, IsOpen, is_after_end, can_stop, note_call}
+use Rattle.request_machine.specs.Kept.{Kept, IsKept, IsChosen, Ties, IsStage, IsOpen, is_after_end, can_stop, note_call}
 use Rattle.request_machine.proofs.Sending.{only_end}
 use Rattle.request_machine.proofs.Ending.{joined}
 use Rattle.request_machine.proofs.Challenged.{challenges_it, notes_by}
@@ -82,3 +80,6 @@ refused_ties s m reply x same is t =
 -- the book is to tell more of what is held
 pub learn_ties : (s : Setting) (m : Kept) (t : Target) (piece : Piece) → m.stage ≡ Go → Ties s m → Ties s (record m { stage = Learn t piece })
 learn_ties s m x piece same t = staged s m (Learn x piece) t (subst (IsStage s m.past) same t.stage) (ap is_after_end same) (ap can_stop same) (only_end s m Go same t (λ n e. e)) tt
+
+pub resume_ties : (s : Setting) (m : Kept) (t : Target) (piece : Piece) → m.stage ≡ Learn t piece → Ties s m → Ties s (record m { stage = Go })
+resume_ties s m x piece same t = staged s m Go t (subst (IsStage s m.past) same t.stage) (ap is_after_end same) (ap can_stop same) (only_end s m (Learn x piece) same t (λ n e. e)) tt

@@ -1,5 +1,5 @@
 -- A challenge of a target, by what it decides on what is held for it.
-use Rattle.std.proofs.Common.{◌≡◌, ◌==◌, ℕ, ◌+◌, Bool, true, false, ◌&&◌, nat_le, List, ◌∷◌, Option, Some, None, refl, sym, if◌then◌else◌, IsTrue, IfSome, subst, is_some, is_none, option_map, ap, ◌∙◌}
+use Rattle.std.proofs.Common.{◌≡◌, ◌==◌, ℕ, ◌+◌, Bool, true, false, ◌&&◌, nat_le, List, ◌∷◌, Option, Some, None, refl, sym, if◌then◌else◌, IsTrue, IfSome, subst, is_some, ap, ◌∙◌}
 use Rattle.std.proofs.lemmas.Bool.{false≢true}
 use Rattle.spaces.specs.declared.site.Target.{Target}
 use Rattle.spaces.specs.declared.site.Target.TheVariants.{Server, Proxy, Socks}

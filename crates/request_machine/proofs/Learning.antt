@@ -12,6 +12,7 @@ use Rattle.request_machine.specs.declared.stage.Stage.TheVariants.{Go, Learn}
 use Rattle.request_machine.specs.Kept.{Kept, Ties}
 use Rattle.request_machine.specs.Told.{with_space, with_identity, with_named}
 use Rattle.request_machine.specs.Changed.{holding, put_held}
+use Rattle.request_machine.specs.Linked.{line}
 use Rattle.request_machine.specs.Gives.{IsSpaceTold, IsIdentityTold, IsTermsTold}
 use Rattle.request_machine.proofs.Starting.{learned_ties, held_with_space, held_with_identity, held_with_named}
 
@@ -20,6 +21,17 @@ pub put_twice : (t : Target) (h : Option Holding) (m : Kept) → put_held t h (p
 put_twice Proxy h m = refl
 put_twice Server h m = refl
 put_twice Socks h m = refl
+
+-- neither the past nor the line is touched
+pub put_past : (t : Target) (h : Option Holding) (m : Kept) → (put_held t h (put_held t None m)).past ≡ m.past
+put_past Proxy h m = refl
+put_past Server h m = refl
+put_past Socks h m = refl
+
+pub put_line : (t : Target) (h : Option Holding) (m : Kept) → line (put_held t h (put_held t None m)) ≡ line m
+put_line Proxy h m = refl
+put_line Server h m = refl
+put_line Socks h m = refl
 
 pub space_ties : (s : Setting) (m : Kept) (t : Target) (space : ProtectionSpace) → m.stage ≡ Learn t Space → IsSpaceTold s m t space → Ties s m → Ties s (record (put_held t (option_map (with_space space) (holding m t)) m) { stage = Go })
 space_ties s m Proxy space same told t = learned_ties s m Proxy Space (option_map (with_space space) m.proxy) m.server same t (held_with_space s m.past Proxy m.proxy space told t.proxy) t.server

@@ -1,5 +1,6 @@
 pub mod Prompts
 pub mod Quiet
+pub mod Beside
 pub mod Replies
 pub mod Targets
 pub mod Starting
@@ -17,11 +18,15 @@ pub mod Reading
 pub mod Needing
 pub mod Rejected
 pub mod Prompting
+pub mod Asking
+pub mod Following
 pub mod Decided
 pub mod Fitting
 pub mod Learning
 pub mod Numbers
 pub mod Renewing
+pub mod Rooms
+pub mod Driving
 pub mod Picking
 pub mod Deciding
 pub mod NextNonces

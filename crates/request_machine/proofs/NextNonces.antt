@@ -1,5 +1,5 @@
 -- The next nonces that the last reply gives.
-use Rattle.std.proofs.Common.{◌≡◌, ℕ, Bool, true, false, List, [], ◌∷◌, ◌++◌, map, Option, Some, None, refl, sym, ap, ◌∙◌, IfSome, IsSome, subst, unwrap_or, option_map, option_and_then, is_some, is_none, if◌then◌else◌}
+use Rattle.std.proofs.Common.{◌≡◌, ℕ, Bool, true, false, List, [], ◌∷◌, ◌++◌, map, Option, Some, None, refl, sym, ap, ◌∙◌, IfSome, IsSome, subst, unwrap_or, option_map, option_and_then, is_none, if◌then◌else◌}
 use Rattle.std.proofs.lemmas.Bool.{false≢true}
 use Rattle.spaces.specs.declared.roster.Request.{Request}
 use Rattle.spaces.specs.declared.site.Target.{Target}
@@ -10,7 +10,7 @@ use Rattle.auth_events.specs.declared.journal.Call.{Call}
 use Rattle.auth_events.specs.declared.journal.Call.TheVariants.{Renew}
 use Rattle.wire_head.specs.declared.reply.Reply.{Reply}
 use Rattle.auth_runs.specs.declared.event.Event.{Event}
-use Rattle.trace_rule.specs.Settings.{Setting, scheme_is}
+use Rattle.trace_rule.specs.Settings.{Setting}
 use Rattle.trace_rule.specs.Challenges.{challenged}
 use Rattle.trace_rule.specs.Holding.{Held, held, held_headed, carried, last_reply}
 use Rattle.trace_rule.specs.NextNonces.{next}
@@ -21,8 +21,7 @@ use Rattle.request_machine.specs.declared.holding.NamedTerms.{NamedTerms}
 use Rattle.request_machine.specs.declared.renew.Renewal.{Renewal}
 use Rattle.request_machine.specs.declared.stage.Closing.{Closing}
 use Rattle.request_machine.specs.declared.stage.Stage.TheVariants.{NextNonce, NameLast, Close}
-use Rattle.request_machine.specs.Kept.{Kept, IsKept, IsHeld, IsKnown, IsCarriedStill, AreCarriedFrom, AreCarriedBehind, AreReadyFrom, AreReadyBehind, IsAnswered, IsOfTarget, IsRenewalLeft, Ties, IsTied, IsStage, held_kept, terms_kept, is_after_end, can_stop, closings_left, renewals_from, renewals_behind, calls_left}
-use Rattle.request_machine.specs.Changed.{holding}
+use Rattle.request_machine.specs.Kept.{Kept, IsKept, IsHeld, IsKnown, IsCarriedStill, AreCarriedFrom, AreReadyFrom, IsAnswered, IsOfTarget, Ties, IsTied, IsStage, held_kept, terms_kept, is_after_end, can_stop, closings_left, renewals_from, calls_left}
 use Rattle.request_machine.specs.Renewals.{stage_behind, renewal_told, renewal_at}
 use Rattle.request_machine.specs.Told.{scheme_told, IsReady}
 use Rattle.request_machine.proofs.Going.{told_scheme}

@@ -10,7 +10,7 @@ use Rattle.spaces.specs.declared.terms.Terms.{Terms}
 use Rattle.spaces.specs.ProtectionSpaces.{ProtectionSpace}
 use Rattle.spaces.specs.Sites.{same_target, site}
 use Rattle.auth_events.specs.declared.journal.Call.TheVariants.{Select}
-use Rattle.trace_rule.specs.Settings.{Setting, target_is}
+use Rattle.trace_rule.specs.Settings.{Setting}
 use Rattle.trace_rule.specs.Challenges.{Offer, space_at}
 use Rattle.trace_rule.specs.Moves.{move, select, known, space_offered, terms_offered}
 use Rattle.trace_rule.specs.Closings.{want, carried_out}

@@ -1,10 +1,8 @@
 -- The best challenge of the last reply.
-use Rattle.std.proofs.Common.{◌≡◌, ℕ, Bool, true, false, ◌==◌, ◌&&◌, ◌||◌, not, List, Option, Some, None, refl, sym, ap, ◌∙◌, subst, IsSome, unwrap_or, option_map, option_and_then, is_some, if◌then◌else◌}
+use Rattle.std.proofs.Common.{◌≡◌, Bool, true, false, ◌==◌, ◌&&◌, ◌||◌, not, List, Option, Some, None, refl, sym, ap, ◌∙◌, subst, IsSome, unwrap_or, option_map, option_and_then, is_some, if◌then◌else◌}
 use Rattle.std.specs.List.{list_any}
-use Rattle.std.proofs.lemmas.Bool.{false≢true}
 use Rattle.spaces.specs.declared.roster.Request.{Request}
 use Rattle.spaces.specs.declared.place.Origin.{Origin}
-use Rattle.spaces.specs.declared.site.Site.{Site}
 use Rattle.spaces.specs.declared.site.Target.{Target}
 use Rattle.spaces.specs.declared.site.Target.TheVariants.{Server, Proxy, Socks}
 use Rattle.spaces.specs.Sites.{site, same_target}
@@ -18,7 +16,7 @@ use Rattle.trace_rule.specs.Holding.{last_reply, negotiates, is_no_mechanism}
 use Rattle.request_machine.specs.declared.pick.Pick.{Pick}
 use Rattle.request_machine.specs.declared.stage.Stage.TheVariants.{Choose, NameSpace, Close}
 use Rattle.request_machine.specs.Chosen.{IsBest, IsPickOf, IsPick}
-use Rattle.request_machine.specs.Kept.{Kept, IsKept, IsChosen, IsChallenged, IsPicked, Ties, IsTied, IsStage, is_after_end, can_stop}
+use Rattle.request_machine.specs.Kept.{Kept, IsKept, IsChosen, IsChallenged, Ties, IsTied, IsStage, is_after_end, can_stop}
 use Rattle.request_machine.specs.Told.{unless_it}
 use Rattle.request_machine.proofs.Sending.{only_end}
 use Rattle.request_machine.proofs.Choosing.{refused_ties, staged}

@@ -1,51 +1,43 @@
--- Prompts: one that the request leads, up to its answer or its loss, and one that it follows.
-use Rattle.std.proofs.Common.{IsSome, ◌≡◌, ℕ, ◌+◌, ◌==◌, Bool, true, false, not, ◌&&◌, List, [], ◌∷◌, ◌++◌, drop, map, Option, Some, None, refl, sym, ap, ◌∙◌, zero-add, if◌then◌else◌, IsTrue, subst, option_map, unwrap_or, is_some, arith}
+-- Prompts that the request leads: the choice that leads one, its answer and its loss.
+use Rattle.std.proofs.Common.{◌≡◌, ℕ, ◌+◌, ◌==◌, Bool, true, false, not, ◌&&◌, List, [], ◌∷◌, ◌++◌, drop, map, Option, Some, None, refl, sym, ap, ◌∙◌, zero-add, if◌then◌else◌, IsTrue, subst, option_map, unwrap_or, is_some, arith}
 use Rattle.std.proofs.lemmas.Bool.{false≢true}
 use Rattle.std.specs.List.{list_any}
 use Rattle.spaces.specs.declared.site.Target.{Target}
 use Rattle.spaces.specs.declared.site.Target.TheVariants.{Server, Proxy}
-use Rattle.spaces.specs.ProtectionSpaces.{ProtectionSpace}
 use Rattle.spaces.specs.Sites.{same_target}
 use Rattle.auth_events.specs.declared.journal.Gift.{Gift}
 use Rattle.auth_events.specs.declared.journal.Loss.{Loss}
 use Rattle.auth_events.specs.declared.journal.Loss.TheVariants.{Fault, Memory}
 use Rattle.auth_events.specs.declared.journal.Call.{Call}
-use Rattle.auth_events.specs.declared.journal.Call.TheVariants.{Select, Answer, Lose, Take, End as CallEnd}
+use Rattle.auth_events.specs.declared.journal.Call.TheVariants.{Select, Answer, Lose, End as CallEnd}
 use Rattle.auth_events.specs.declared.journal.BookReply.{BookReply}
-use Rattle.auth_events.specs.declared.journal.BookReply.TheVariants.{Lead, Follow, Given, Gave, Cancelled, Lost}
+use Rattle.auth_events.specs.declared.journal.BookReply.TheVariants.{Lead, Given, Cancelled, Lost}
 use Rattle.wire_head.specs.declared.reply.Reply.{Reply}
 use Rattle.link_trait.specs.declared.prompts.Ask.{Ask as Asked}
-use Rattle.link_trait.specs.declared.prompts.AskSeen.{AskSeen}
-use Rattle.link_trait.specs.declared.prompts.AskSeen.TheVariants.{Given as AskGiven, Cancel, Failed as AskFailed, NoMemory as AskNoMemory}
 use Rattle.auth_runs.specs.declared.event.Event.{Event}
-use Rattle.auth_runs.specs.declared.event.Event.TheVariants.{Called, AskedFor}
+use Rattle.auth_runs.specs.declared.event.Event.TheVariants.{Called}
 use Rattle.auth_runs.specs.declared.event.Outcome.TheVariants.{Refused}
 use Rattle.auth_runs.specs.declared.event.Why.{Why}
 use Rattle.auth_runs.specs.declared.event.Why.TheVariants.{Cancelled as ByCancel}
 use Rattle.trace_rule.specs.Settings.{Setting, is_proxied, target_is}
 use Rattle.trace_rule.specs.Challenges.{challenges_target}
-use Rattle.trace_rule.specs.Holding.{held, if_target, gift_held, carried, code, last_reply, terms_followed}
+use Rattle.trace_rule.specs.Holding.{held, carried, code, last_reply}
 use Rattle.trace_rule.specs.Moves.{move, rounds, lost, terms_led}
-use Rattle.trace_rule.specs.Moves.Want.{Calls, Answers}
 use Rattle.trace_rule.specs.Moves.Move.{Closes}
 use Rattle.trace_rule.specs.Closings.{closings, closings_made, is_challenged, note_for}
 use Rattle.trace_rule.specs.Traces.{IsPast, Follows, suits, may_hold, same_loss, settles, is_end, is_follow, prompt_open, space_prompted}
-use Rattle.trace_rule.specs.Telling.{ask_of, prompted, is_answered}
-use Rattle.auth_text.specs.Login.{Login}
-use Rattle.link_trait.specs.Told.{grown}
-use Rattle.std.proofs.lemmas.List.{append-nil}
-use Rattle.request_machine.proofs.Dialing.{grown_more, grown_none}
+use Rattle.trace_rule.specs.Telling.{ask_of}
 use Rattle.request_machine.specs.declared.holding.Holding.{Holding}
 use Rattle.request_machine.specs.declared.stage.Closing.{Closing}
 use Rattle.request_machine.specs.declared.stage.Prompt.{Prompt}
 use Rattle.request_machine.specs.declared.stage.Stage.{Stage}
-use Rattle.request_machine.specs.declared.stage.Stage.TheVariants.{Go, Select as Selecting, Ask, NameText, Answer as Answering, Cancel as Cancelling, Lose as Losing, Take as Taking, Close}
-use Rattle.request_machine.specs.Kept.{IsKept, Kept, Ties, IsStage, IsOpen, IsHeld, IsLed, IsAskOf, asked_of, is_after_end, can_stop, note_call, calls_left}
+use Rattle.request_machine.specs.declared.stage.Stage.TheVariants.{Go, Select as Selecting, Ask, Answer as Answering, Cancel as Cancelling, Lose as Losing, Close}
+use Rattle.request_machine.specs.Kept.{IsKept, Kept, Ties, IsStage, IsOpen, IsHeld, IsLed, IsAskOf, asked_of, is_after_end, note_call, calls_left}
 use Rattle.request_machine.specs.Told.{held_chosen, closing_by}
 use Rattle.request_machine.specs.Replies.{challenged_told}
-use Rattle.request_machine.specs.Asking.{stage_asked, outcome_lost, unless_told, refused_by}
-use Rattle.request_machine.proofs.Quiet.{IsNext, IsStill, quiet_ties, same_held}
-use Rattle.request_machine.proofs.Prompts.{open_behind, open_settled}
+use Rattle.request_machine.specs.Asking.{outcome_lost, unless_told, refused_by}
+use Rattle.request_machine.proofs.Quiet.{IsNext, same_held}
+use Rattle.request_machine.proofs.Prompts.{open_settled}
 use Rattle.request_machine.proofs.Targets.{held_space}
 use Rattle.request_machine.proofs.Selected.{chosen_held}
 use Rattle.request_machine.proofs.Challenged.{notes_by}
@@ -86,13 +78,13 @@ call_ties s m call reply stage proxy server p is_open t kept held_proxy held_ser
 }
 
 -- no call at the end is made by it
-still_open : (s : Setting) (m : Kept) (stage : Stage) → m.stage ≡ stage → Ties s m → IsOpen stage (closings_made s m.past)
+pub still_open : (s : Setting) (m : Kept) (stage : Stage) → m.stage ≡ stage → Ties s m → IsOpen stage (closings_made s m.past)
 still_open s m stage same t = subst (λ x. IsOpen x (closings_made s m.past)) same t.open_still
 
-none_made : (s : Setting) (m : Kept) → closings_made s m.past ≡ 0 → 0 + closings_made s m.past ≡ 0
+pub none_made : (s : Setting) (m : Kept) → closings_made s m.past ≡ 0 → 0 + closings_made s m.past ≡ 0
 none_made s m none = zero-add (closings_made s m.past) ∙ none
 
-either : {A : Type 0} (b : Bool) (a : A) → (if b then a else a) ≡ a
+pub either : {A : Type 0} (b : Bool) (a : A) → (if b then a else a) ≡ a
 either true a = refl
 either false a = refl
 
@@ -114,7 +106,7 @@ not_true false e = refl
 -- LEADING A PROMPT
 
 -- the number of the prompt stands for it
-led_by : (p k : ℕ) (n : ℕ) → unwrap_or (if p == p then Some k else None) n ≡ k
+pub led_by : (p k : ℕ) (n : ℕ) → unwrap_or (if p == p then Some k else None) n ≡ k
 led_by p k n = ap (λ b. unwrap_or (if b then Some k else None) n) (same_number p)
 
 pub led_ties : (s : Setting) (m : Kept) (t : Target) (n k p ordinal : ℕ) → m.stage ≡ Selecting t n k → IsTrue (suits s m.past (Select n k) (Lead p ordinal)) → Ties s m
@@ -143,106 +135,6 @@ led_ties s m x n k p ordinal same suited t =
       open_still = none_made s m (still_open s m (Selecting x n k) same t);
     })
 
--- THE PROMPTER'S ANSWER
-
-asked_still : (s : Setting) (past : List Event) (p : ℕ) (seen : AskSeen) → IsStill s past (AskedFor p seen)
-asked_still s past p seen = record {
-  drawn = λ t. refl;
-  carried = λ t. refl;
-  links = refl;
-  heads = refl;
-  code = refl;
-  rounds = zero-add (rounds s past);
-  is_dialed = refl;
-  has_lost = refl;
-  has_none = refl;
-  prompt = open_behind past (AskedFor p seen) (λ q. refl);
-}
-
-led_still : (s : Setting) (past : List Event) (p : Prompt) (seen : AskSeen) → IsLed s past p → IsLed s (AskedFor p.number seen ∷ past) p
-led_still s past p seen led = record {
-  terms = led.terms;
-  space = led.space;
-  is_open = open_behind past (AskedFor p.number seen) (λ q. refl) ∙ led.is_open;
-  of_target = led.of_target;
-}
-
-pub asked_ties : (s : Setting) (m : Kept) (p : Prompt) (ordinal : ℕ) (seen : AskSeen) → m.stage ≡ Ask p ordinal → (seen ≡ AskGiven → IsSome m.given) → Ties s m
-    → Ties s (record m { past = AskedFor p.number seen ∷ m.past; stage = stage_asked p seen })
-asked_ties s m p ordinal seen same given t =
-    quiet_ties s m (AskedFor p.number seen) (stage_asked p seen) (asked_still s m.past p.number seen) (λ x. refl) t (keeps seen given) (by seen)
-  where
-    keeps : (seen : AskSeen) → (seen ≡ AskGiven → IsSome m.given) → IsKept s (record m { past = AskedFor p.number seen ∷ m.past; stage = stage_asked p seen }) (stage_asked p seen)
-    keeps AskGiven given = given refl
-    keeps Cancel given = tt
-    keeps (AskFailed count) given = tt
-    keeps AskNoMemory given = tt
-
-    no_end : list_any is_end m.past ≡ false
-    no_end = t.ended ∙ ap is_after_end same
-
-    at : IsStage s m.past (Ask p ordinal)
-    at = subst (IsStage s m.past) same t.stage
-
-    past : (given : AskSeen) → IsPast s (AskedFor p.number given ∷ m.past)
-    past given = (at.0, subst (λ v. Follows s m.past v (AskedFor p.number given)) (sym at.1) refl)
-
-    by : (given : AskSeen) → IsNext s (AskedFor p.number given ∷ m.past) (stage_asked p given)
-    by AskGiven = record {
-      stands = (past AskGiven, ap (Answers p.number) at.2.terms, led_still s m.past p AskGiven at.2);
-      ended = no_end;
-      may_stop = rw no_end refl;
-      open_still = still_open s m (Ask p ordinal) same t;
-    }
-    by Cancel = record {
-      stands = (past Cancel, ap (λ k. Calls (Answer p.number 0 k)) at.2.terms, led_still s m.past p Cancel at.2);
-      ended = no_end;
-      may_stop = rw no_end refl;
-      open_still = still_open s m (Ask p ordinal) same t;
-    }
-    by (AskFailed count) = record {
-      stands = (past (AskFailed count), refl, led_still s m.past p (AskFailed count) at.2);
-      ended = no_end;
-      may_stop = rw no_end refl;
-      open_still = still_open s m (Ask p ordinal) same t;
-    }
-    by AskNoMemory = record {
-      stands = (past AskNoMemory, refl, led_still s m.past p AskNoMemory at.2);
-      ended = no_end;
-      may_stop = rw no_end refl;
-      open_still = still_open s m (Ask p ordinal) same t;
-    }
-
--- a text has a number
-pub text_named_ties : (s : Setting) (m : Kept) (p : Prompt) (text : ℕ) → m.stage ≡ NameText p → IsTrue (not (text == 0)) → Ties s m → Ties s (record m { stage = Answering p text })
-text_named_ties s m p text same some t =
-    let at : IsStage s m.past (NameText p) = subst (IsStage s m.past) same t.stage in
-    record {
-      same_number = t.same_number;
-      same_seed = t.same_seed;
-      passes_over = t.passes_over;
-      route = t.route;
-      stage = (at.0, at.1, at.2, some);
-      proxy = t.proxy;
-      server = t.server;
-      drawn_proxy = t.drawn_proxy;
-      drawn_server = t.drawn_server;
-      noted_proxy = t.noted_proxy;
-      noted_server = t.noted_server;
-      links = t.links;
-      heads = t.heads;
-      code = t.code;
-      rounds = t.rounds;
-      is_dialed = t.is_dialed;
-      has_lost = t.has_lost;
-      has_none = t.has_none;
-      ended = t.ended ∙ ap is_after_end same;
-      may_stop = t.may_stop ∙ ap can_stop same;
-      prompt = t.prompt;
-      open_still = still_open s m (NameText p) same t;
-      kept = tt;
-    }
-
 -- THE BOOK'S REPLY TO AN ANSWER
 
 -- once it is settled, no prompt is open
@@ -251,7 +143,7 @@ closed_by s past p event settled led =
     open_settled past event (λ q e. settled q ∙ subst (λ z. (p.number == z) ≡ true) (sym led.is_open ∙ e) (same_number p.number)) past refl
 
 -- the target of the prompt's space is that of its gift
-gift_target : (s : Setting) (p : Prompt) (gift : Gift) → gift.space ≡ p.space → ((x : Target) → target_is s p.space x ≡ same_target x p.target) → (x : Target) → target_is s gift.space x ≡ same_target x p.target
+pub gift_target : (s : Setting) (p : Prompt) (gift : Gift) → gift.space ≡ p.space → ((x : Target) → target_is s p.space x ≡ same_target x p.target) → (x : Target) → target_is s gift.space x ≡ same_target x p.target
 gift_target s p gift spaced known x = ap (λ n. target_is s n x) spaced ∙ known x
 
 pub given_ties : (s : Setting) (m : Kept) (p : Prompt) (text evicted : ℕ) (gift : Gift) → m.stage ≡ Answering p text → IsTrue (suits s m.past (Answer p.number text p.terms) (Given gift evicted)) → Ties s m
@@ -342,11 +234,11 @@ same_loss_is (Fault a) Memory e = absurd (false≢true e)
 same_loss_is Memory (Fault b) e = absurd (false≢true e)
 same_loss_is Memory Memory e = refl
 
-lost_closes : (loss : Loss) → lost loss ≡ Closes (outcome_lost loss)
+pub lost_closes : (loss : Loss) → lost loss ≡ Closes (outcome_lost loss)
 lost_closes (Fault count) = refl
 lost_closes Memory = refl
 
-lost_left : (s : Setting) (whole : List Event) (loss : Loss) → closings s whole (outcome_lost loss) ≡ map Some (calls_left (closing_by (outcome_lost loss)))
+pub lost_left : (s : Setting) (whole : List Event) (loss : Loss) → closings s whole (outcome_lost loss) ≡ map Some (calls_left (closing_by (outcome_lost loss)))
 lost_left s whole (Fault count) = refl
 lost_left s whole Memory = refl
 
@@ -359,119 +251,3 @@ prompt_failed_ties s m p loss told same suited t =
     call_closes s m (Lose p.number loss) (Lost told) (closing_by (outcome_lost told)) 0
     (at.0, subst (λ v. Follows s m.past v event) (sym at.1) (refl, suited)) (lost_closes told) (lost_left s (event ∷ m.past) told)
     (none_made s m (still_open s m (Losing p loss) same t)) (t.ended ∙ ap is_after_end same) refl (closed_by s m.past p event (λ q. refl) at.2) (λ x. refl) t
-
--- FOLLOWING A PROMPT
-
-pub followed_ties : (s : Setting) (m : Kept) (t : Target) (n k p : ℕ) → m.stage ≡ Selecting t n k → IsTrue (suits s m.past (Select n k) (Follow p)) → Ties s m
-    → Ties s (record m { past = Called (Select n k) (Follow p) ∷ m.past; stage = Taking (record { target = t; number = p; space = n; terms = k }) })
-followed_ties s m x n k p same suited t =
-    let no_end : list_any is_end m.past ≡ false = t.ended ∙ ap is_after_end same in
-    let at : IsStage s m.past (Selecting x n k) = subst (IsStage s m.past) same t.stage in
-    let event : Event = Called (Select n k) (Follow p) in
-    call_ties s m (Select n k) (Follow p) (Taking (record { target = x; number = p; space = n; terms = k })) m.proxy m.server m.prompt
-    (open_behind m.past event (λ q. refl) ∙ t.prompt) t tt
-    (same_held s m.past event Proxy m.proxy (either (target_is s n Proxy) (held s m.past Proxy)) t.proxy)
-    (same_held s m.past event Server m.server (either (target_is s n Server) (held s m.past Server)) t.server)
-    (record {
-      stands = (
-        (at.0, subst (λ v. Follows s m.past v event) (sym at.1) (refl, suited)),
-        refl,
-        record { terms = led_by p k (terms_followed m.past p); space = led_by p n (space_prompted m.past p); of_target = at.2 },
-      );
-      ended = no_end;
-      may_stop = refl;
-      open_still = none_made s m (still_open s m (Selecting x n k) same t);
-    })
-
--- the answer to a prompt of another request is a gift
-pub taken_ties : (s : Setting) (m : Kept) (p : Prompt) (gift : Gift) → m.stage ≡ Taking p → IsTrue (suits s m.past (Take p.number) (Gave gift)) → Ties s m
-    → Ties s (record m {
-      past = Called (Take p.number) (Gave gift) ∷ m.past;
-      stage = Go;
-      proxy = held_chosen p.target gift p.terms Proxy m.proxy;
-      server = held_chosen p.target gift p.terms Server m.server;
-    })
-taken_ties s m p gift same suited t =
-    let no_end : list_any is_end m.past ≡ false = t.ended ∙ ap is_after_end same in
-    let at : IsStage s m.past (Taking p) = subst (IsStage s m.past) same t.stage in
-    let event : Event = Called (Take p.number) (Gave gift) in
-    let spaced : gift.space ≡ p.space = held_space s gift (space_prompted m.past p.number) (terms_followed m.past p.number) suited ∙ at.2.space in
-    call_ties s m (Take p.number) (Gave gift) Go (held_chosen p.target gift p.terms Proxy m.proxy) (held_chosen p.target gift p.terms Server m.server) m.prompt
-    (open_behind m.past event (λ q. refl) ∙ t.prompt) t tt
-    (chosen_held s m.past event Proxy p.target gift.space p.terms gift m.proxy (ap (λ k. if_target s Proxy gift.space (gift_held gift k None) (held s m.past Proxy)) at.2.terms) (gift_target s p gift spaced at.2.of_target) refl t.proxy)
-    (chosen_held s m.past event Server p.target gift.space p.terms gift m.server (ap (λ k. if_target s Server gift.space (gift_held gift k None) (held s m.past Server)) at.2.terms) (gift_target s p gift spaced at.2.of_target) refl t.server)
-    (record {
-      stands = ((at.0, subst (λ v. Follows s m.past v event) (sym at.1) (refl, suited)), refl);
-      ended = no_end;
-      may_stop = rw no_end refl;
-      open_still = none_made s m (still_open s m (Taking p) same t);
-    })
-
--- it was cancelled
-pub not_taken_ties : (s : Setting) (m : Kept) (p : Prompt) → m.stage ≡ Taking p → IsTrue (suits s m.past (Take p.number) Cancelled) → Ties s m
-    → Ties s (record m { past = Called (Take p.number) Cancelled ∷ m.past; stage = Close (refused_by m (ByCancel p.number)) })
-not_taken_ties s m p same suited t =
-    let at : IsStage s m.past (Taking p) = subst (IsStage s m.past) same t.stage in
-    let event : Event = Called (Take p.number) Cancelled in
-    call_closes s m (Take p.number) Cancelled (refused_by m (ByCancel p.number)) m.prompt
-    (at.0, subst (λ v. Follows s m.past v event) (sym at.1) (refl, suited)) (ap (λ c. Closes (Refused c (ByCancel p.number))) t.code)
-    (refused_left s m (Take p.number) Cancelled (ByCancel p.number) t)
-    (none_made s m (still_open s m (Taking p) same t)) (t.ended ∙ ap is_after_end same) refl (open_behind m.past event (λ q. refl) ∙ t.prompt) (λ x. refl) t
-
--- it was lost
-pub lost_with_it_ties : (s : Setting) (m : Kept) (p : Prompt) (told : Loss) → m.stage ≡ Taking p → IsTrue (suits s m.past (Take p.number) (Lost told)) → Ties s m
-    → Ties s (record m { past = Called (Take p.number) (Lost told) ∷ m.past; stage = Close (closing_by (outcome_lost told)) })
-lost_with_it_ties s m p told same suited t =
-    let at : IsStage s m.past (Taking p) = subst (IsStage s m.past) same t.stage in
-    let event : Event = Called (Take p.number) (Lost told) in
-    call_closes s m (Take p.number) (Lost told) (closing_by (outcome_lost told)) m.prompt
-    (at.0, subst (λ v. Follows s m.past v event) (sym at.1) (refl, suited)) (lost_closes told) (lost_left s (event ∷ m.past) told)
-    (none_made s m (still_open s m (Taking p) same t)) (t.ended ∙ ap is_after_end same) refl (open_behind m.past event (λ q. refl) ∙ t.prompt) (λ x. refl) t
-
--- the identity that was given plays no part
-pub given_kept_ties : (s : Setting) (m : Kept) (p : Prompt) (ordinal : ℕ) (login : Login) → m.stage ≡ Ask p ordinal → Ties s m → Ties s (record m { given = Some login })
-given_kept_ties s m p ordinal login same t = record {
-  same_number = t.same_number;
-  same_seed = t.same_seed;
-  passes_over = t.passes_over;
-  route = t.route;
-  stage = t.stage;
-  proxy = t.proxy;
-  server = t.server;
-  drawn_proxy = t.drawn_proxy;
-  drawn_server = t.drawn_server;
-  noted_proxy = t.noted_proxy;
-  noted_server = t.noted_server;
-  links = t.links;
-  heads = t.heads;
-  code = t.code;
-  rounds = t.rounds;
-  is_dialed = t.is_dialed;
-  has_lost = t.has_lost;
-  has_none = t.has_none;
-  ended = t.ended;
-  may_stop = t.may_stop;
-  prompt = t.prompt;
-  open_still = t.open_still;
-  kept = subst (IsKept s (record m { given = Some login })) (sym same) tt;
-}
-
--- WHAT THE PROMPTER TELLS
-
--- one answered prompt more
-pub one_ask : (s : Setting) (m : Kept) (p : Prompt) (ordinal : ℕ) (seen : AskSeen) (space : ProtectionSpace) (before old : Option (List Asked)) → m.stage ≡ Ask p ordinal → is_answered seen ≡ true
-    → s.space_of p.space ≡ Some space → Ties s m → old ≡ grown before (prompted s m.past)
-    → grown old (asked_of ordinal space ∷ []) ≡ grown before (prompted s (AskedFor p.number seen ∷ m.past))
-one_ask s m p ordinal seen space before old same answers is t told =
-    let at : IsStage s m.past (Ask p ordinal) = subst (IsStage s m.past) same t.stage in
-    ap (λ o. grown o (asked_of ordinal space ∷ [])) told
-    ∙ grown_more before (prompted s m.past) (asked_of ordinal space ∷ [])
-    ∙ ap (λ asks. grown before (prompted s m.past ++ asks)) (sym (at.3 space is))
-    ∙ ap (λ b. grown before (prompted s m.past ++ (if b then ask_of s m.past p.number else []))) (sym answers)
-
--- no answer is told
-pub no_ask : (s : Setting) (m : Kept) (p : ℕ) (seen : AskSeen) (before old : Option (List Asked)) → is_answered seen ≡ false → old ≡ grown before (prompted s m.past)
-    → grown old [] ≡ grown before (prompted s (AskedFor p seen ∷ m.past))
-no_ask s m p seen before old none told =
-    grown_none old ∙ told ∙ ap (grown before) (sym (append-nil (prompted s m.past)))
-    ∙ ap (λ b. grown before (prompted s m.past ++ (if b then ask_of s m.past p else []))) (sym none)

@@ -9,73 +9,16 @@ use Rattle.wire_head.specs.declared.reply.Reply.{Reply}
 use Rattle.trace_rule.specs.Settings.{Setting}
 use Rattle.trace_rule.specs.Challenges.{challenged}
 use Rattle.link_trait.specs.declared.links.LinkName.{LinkName}
-use Rattle.request_machine.specs.declared.stage.Stage.{Stage}
-use Rattle.request_machine.specs.declared.stage.Stage.TheVariants.{Call as Calling, Go, Learn, Draw, Choose, NameSpace, NameTerms, Select as Selecting, Ask, NameText, Answer as Answering, Cancel as Cancelling, Lose as Losing, Take as Taking, Reject as Rejecting, NameRenewal, Renew as Renewing, Read, NextNonce, NameLast, RenewLast, Close, End, Spent, SpentEnd, SpentOver, Over}
+use Rattle.request_machine.specs.declared.stage.Stage.TheVariants.{Read}
 use Rattle.request_machine.specs.Kept.{Kept, IsKept, Ties, IsTied}
 use Rattle.request_machine.specs.Changed.{holding}
 use Rattle.request_machine.specs.Told.{IsReady}
 use Rattle.request_machine.specs.Replies.{challenged_told}
+use Rattle.request_machine.proofs.Beside.{linked_ties}
 
 -- whom a reply challenges, by what was told of the route
 pub challenged_is_told : (s : Setting) (m : Kept) (reply : Reply) (o : Option Target) → challenged_told m.is_proxied reply.code ≡ o → Ties s m → challenged s reply ≡ o
 challenged_is_told s m reply o told t = ap (λ b. challenged_told b reply.code) t.route ∙ told
-
--- the link plays no part
-kept_linked : (s : Setting) (m : Kept) (link : Option LinkName) (stage : Stage) → IsKept s m stage → IsKept s (record m { link = link }) stage
-kept_linked s m link (Calling call) kept = kept
-kept_linked s m link Go kept = kept
-kept_linked s m link (Learn t piece) kept = kept
-kept_linked s m link (Draw t nonce) kept = kept
-kept_linked s m link (Choose t) kept = kept
-kept_linked s m link (NameSpace t) kept = kept
-kept_linked s m link (NameTerms t n) kept = kept
-kept_linked s m link (Selecting t space terms) kept = kept
-kept_linked s m link (Ask p ordinal) kept = kept
-kept_linked s m link (NameText p) kept = kept
-kept_linked s m link (Answering p text) kept = kept
-kept_linked s m link (Cancelling p) kept = kept
-kept_linked s m link (Losing p loss) kept = kept
-kept_linked s m link (Taking p) kept = kept
-kept_linked s m link (Rejecting t gift) kept = kept
-kept_linked s m link (NameRenewal t gift) kept = kept
-kept_linked s m link (Renewing t gift terms) kept = kept
-kept_linked s m link (Read on) kept = kept
-kept_linked s m link (NextNonce t c) kept = kept
-kept_linked s m link (NameLast t gift c) kept = kept
-kept_linked s m link (RenewLast t gift terms c) kept = kept
-kept_linked s m link (Close c) kept = kept
-kept_linked s m link (End outcome) kept = kept
-kept_linked s m link Spent kept = kept
-kept_linked s m link SpentEnd kept = kept
-kept_linked s m link SpentOver kept = kept
-kept_linked s m link Over kept = kept
-
-pub linked_ties : (s : Setting) (m : Kept) (link : Option LinkName) → Ties s m → Ties s (record m { link = link })
-linked_ties s m link t = record {
-  same_number = t.same_number;
-  same_seed = t.same_seed;
-  passes_over = t.passes_over;
-  route = t.route;
-  stage = t.stage;
-  proxy = t.proxy;
-  server = t.server;
-  drawn_proxy = t.drawn_proxy;
-  drawn_server = t.drawn_server;
-  noted_proxy = t.noted_proxy;
-  noted_server = t.noted_server;
-  links = t.links;
-  heads = t.heads;
-  code = t.code;
-  rounds = t.rounds;
-  is_dialed = t.is_dialed;
-  has_lost = t.has_lost;
-  has_none = t.has_none;
-  ended = t.ended;
-  may_stop = t.may_stop;
-  prompt = t.prompt;
-  open_still = t.open_still;
-  kept = kept_linked s m link m.stage t.kept;
-}
 
 -- what is to be named plays no part before it is asked for
 pub unnamed_ties : (s : Setting) (m : Kept) (space : Option ProtectionSpace) (terms : Option Terms) → IsKept s (record m { unnamed_space = space; unnamed_terms = terms }) m.stage → Ties s m

@@ -1,11 +1,10 @@
 -- A gift is given other terms.
-use Rattle.std.proofs.Common.{◌≡◌, ℕ, ◌+◌, true, false, nat_le, ◌&&◌, List, [], ◌∷◌, ◌++◌, Option, Some, None, refl, sym, ap, ◌∙◌, zero-add, if◌then◌else◌, IsTrue, IsSome, IfSome, subst, unwrap_or, option_map, option_and_then, is_none, map, drop}
+use Rattle.std.proofs.Common.{◌≡◌, ℕ, ◌+◌, true, false, nat_le, ◌&&◌, List, [], ◌∷◌, ◌++◌, Option, Some, None, refl, sym, ap, ◌∙◌, zero-add, if◌then◌else◌, IsTrue, IfSome, subst, unwrap_or, option_map, option_and_then, is_none, map, drop}
 use Rattle.std.specs.List.{list_any}
 use Rattle.spaces.specs.declared.site.Target.{Target}
 use Rattle.spaces.specs.declared.site.Target.TheVariants.{Server, Proxy, Socks}
 use Rattle.spaces.specs.declared.terms.Terms.{Terms}
 use Rattle.auth_events.specs.declared.journal.Gift.{Gift}
-use Rattle.auth_events.specs.declared.journal.Call.{Call}
 use Rattle.auth_events.specs.declared.journal.Call.TheVariants.{Renew, End as CallEnd}
 use Rattle.auth_events.specs.declared.journal.BookReply.{BookReply}
 use Rattle.wire_head.specs.declared.reply.Reply.{Reply}
@@ -15,20 +14,18 @@ use Rattle.auth_runs.specs.declared.event.Outcome.{Outcome}
 use Rattle.auth_runs.specs.declared.event.Outcome.TheVariants.{Answered, Refused, BadReply, LinkFailed, ProviderFailed, PromptFailed, NoMemory}
 use Rattle.trace_rule.specs.Settings.{Setting, target_is}
 use Rattle.trace_rule.specs.Challenges.{challenged}
-use Rattle.trace_rule.specs.Holding.{held, held_headed, carried, last_reply, if_target, gift_held}
+use Rattle.trace_rule.specs.Holding.{held, last_reply, gift_held}
 use Rattle.trace_rule.specs.Moves.{move, go, known, rounds, is_answered}
-use Rattle.trace_rule.specs.Closings.{want, carried_out, next_closing, closings, closings_made, is_closing, renewal_for, notes}
+use Rattle.trace_rule.specs.Closings.{want, carried_out, next_closing, closings, closings_made, renewal_for, notes}
 use Rattle.trace_rule.specs.Moves.Want.{Calls}
-use Rattle.trace_rule.specs.Moves.Move.{Goes, Closes}
+use Rattle.trace_rule.specs.Moves.Move.{Goes}
 use Rattle.trace_rule.specs.Traces.{Follows, suits, is_end, may_cut}
-use Rattle.request_machine.specs.declared.holding.Holding.{Holding}
 use Rattle.request_machine.specs.declared.stage.Closing.{Closing}
-use Rattle.request_machine.specs.declared.stage.Stage.{Stage}
-use Rattle.request_machine.specs.declared.stage.Stage.TheVariants.{Go, NameRenewal, Renew as Renewing, NameLast, RenewLast, NextNonce, Close}
-use Rattle.request_machine.specs.Kept.{Kept, IsKept, IsStale, IsRenewalLeft, IsChallenged, IsAnswered, IsCarriedStill, AreCarriedBehind, AreCarriedFrom, AreReadyBehind, IsOfTarget, Ties, IsStage, IsOpen, is_after_end, can_stop, closings_left, renewals_from, renewals_behind, calls_left}
+use Rattle.request_machine.specs.declared.stage.Stage.TheVariants.{Go, NameRenewal, Renew as Renewing, NameLast, RenewLast}
+use Rattle.request_machine.specs.Kept.{Kept, IsKept, IsStale, IsRenewalLeft, IsChallenged, IsAnswered, IsCarriedStill, AreCarriedBehind, AreReadyBehind, IsOfTarget, Ties, IsStage, IsOpen, is_after_end, can_stop, closings_left, renewals_behind, calls_left}
 use Rattle.request_machine.specs.Gives.{AreTermsNamed}
 use Rattle.request_machine.specs.Renewals.{stage_behind}
-use Rattle.request_machine.specs.Told.{held_chosen, IsReady}
+use Rattle.request_machine.specs.Told.{held_chosen}
 use Rattle.request_machine.proofs.Quiet.{IsStill, IsNext, still_ties}
 use Rattle.request_machine.proofs.Prompts.{open_behind}
 use Rattle.request_machine.proofs.Replies.{no_follow}

@@ -59,6 +59,7 @@ pub new_ties : (s : Setting) (request : Request) (number : ℕ) (seed : List ℕ
       given = None;
       unnamed_space = None;
       unnamed_terms = None;
+      space = None;
       link = None;
     })
 new_ties s request number seed same = record {

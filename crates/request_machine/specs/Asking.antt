@@ -1,5 +1,5 @@
 -- What follows the prompter's answer, and how a request closes behind a prompt.
-use Rattle.std.specs.Prelude.{false, Option, None, unwrap_or, option_map, if◌then◌else◌}
+use Rattle.std.specs.Prelude.{ℕ, ◌≡◌, false, List, ◌∷◌, Option, None, unwrap_or, option_map, if◌then◌else◌}
 use Rattle.spaces.specs.declared.site.Target.{Target}
 use Rattle.spaces.specs.declared.site.Target.TheVariants.{Server, Proxy}
 use Rattle.spaces.specs.Sites.{same_target}
@@ -8,6 +8,8 @@ use Rattle.auth_events.specs.declared.journal.Loss.{Loss}
 use Rattle.auth_events.specs.declared.journal.Loss.TheVariants.{Fault, Memory}
 use Rattle.link_trait.specs.declared.prompts.AskSeen.{AskSeen}
 use Rattle.link_trait.specs.declared.prompts.AskSeen.TheVariants.{Given, Cancel as AskCancel, Failed, NoMemory as AskNoMemory}
+use Rattle.auth_runs.specs.declared.event.Event.{Event}
+use Rattle.auth_runs.specs.declared.event.Event.TheVariants.{AskedFor}
 use Rattle.auth_runs.specs.declared.event.Outcome.{Outcome}
 use Rattle.auth_runs.specs.declared.event.Outcome.TheVariants.{Refused, PromptFailed, NoMemory}
 use Rattle.auth_runs.specs.declared.event.Why.{Why}
@@ -24,6 +26,10 @@ stage_asked p Given = NameText p
 stage_asked p AskCancel = Cancel p
 stage_asked p (Failed count) = Lose p (Fault count)
 stage_asked p AskNoMemory = Lose p Memory
+
+-- the prompt was asked, whatever the prompter gave
+abbrev pub IsAskedIn : ℕ → List Event → List Event → Type 0
+IsAskedIn p before now = (seen : AskSeen) × (now ≡ AskedFor p seen ∷ before)
 
 -- the outcome behind a lost prompt
 abbrev pub outcome_lost : Loss → Outcome

@@ -1,5 +1,5 @@
 -- The challenge that is answered, and the one that decides on what is held.
-use Rattle.std.specs.Prelude.{◌≡◌, false, Bool, ◌&&◌, List, Option, Some, None, IfSome, is_some, option_map, option_and_then, find, if◌then◌else◌}
+use Rattle.std.specs.Prelude.{◌≡◌, false, List, Option, Some, None, option_map, option_and_then, find, if◌then◌else◌}
 use Rattle.spaces.specs.declared.roster.Request.{Request}
 use Rattle.spaces.specs.declared.site.Target.{Target}
 use Rattle.spaces.specs.declared.terms.Terms.{Terms}

@@ -1,24 +1,26 @@
 -- What a setting has to say so that an answer to a need is true of it.
-use Rattle.std.specs.Prelude.{ℕ, Bool, true, false, List, ◌∷◌, ◌≡◌, IsTrue, IfSome, Some, is_some, ◌==◌, if◌then◌else◌}
+use Rattle.std.specs.Prelude.{ℕ, Bool, true, false, List, ◌∷◌, ◌≡◌, ◌==◌, IsTrue, IfSome, Some, if◌then◌else◌}
 use Rattle.auth_text.specs.Login.{Login}
 use Rattle.spaces.specs.declared.site.Target.{Target}
 use Rattle.spaces.specs.ProtectionSpaces.{ProtectionSpace}
 use Rattle.auth_events.specs.declared.journal.Call.TheVariants.{Begin, Preempt, Select, Reject, Renew, Answer, Lose, Take, End as CallEnd}
 use Rattle.auth_events.specs.declared.journal.Call.{Call}
 use Rattle.auth_events.specs.declared.journal.BookReply.{BookReply}
-use Rattle.auth_events.specs.declared.journal.BookReply.TheVariants.{Given, Cancelled}
+use Rattle.auth_events.specs.declared.journal.BookReply.TheVariants.{Given, Cancelled, Lost, Ended as RequestEnded}
+use Rattle.auth_events.specs.declared.journal.Loss.TheVariants.{Memory}
+use Rattle.auth_events.specs.declared.journal.Drawn.{Drawn as CountDrawn}
 use Rattle.auth_events.specs.Pages.{fits}
 use Rattle.auth_runs.specs.declared.event.Event.{Event}
-use Rattle.auth_runs.specs.declared.event.Event.TheVariants.{Called}
+use Rattle.auth_runs.specs.declared.event.Event.TheVariants.{Called, Drew}
 use Rattle.spaces.specs.declared.site.Target.TheVariants.{Server, Proxy}
 use Rattle.trace_rule.specs.Settings.{Setting}
 use Rattle.trace_rule.specs.Traces.{suits}
 use Rattle.request_machine.specs.declared.holding.NamedTerms.{NamedTerms}
 use Rattle.request_machine.specs.declared.gave.Gave.{Gave}
-use Rattle.request_machine.specs.declared.gave.Gave.TheVariants.{Reply, Number, Ref, Identity, Terms, Space, NoMemory}
+use Rattle.request_machine.specs.declared.gave.Gave.TheVariants.{Reply, Number, Ref, Identity, Terms, Space, Drawn}
 use Rattle.request_machine.specs.declared.stage.Piece.TheVariants.{Space as OfSpace, Identity as OfIdentity, Terms as OfTerms}
 use Rattle.request_machine.specs.declared.stage.Stage.{Stage}
-use Rattle.request_machine.specs.declared.stage.Stage.TheVariants.{Call as Calling, Learn, NameSpace, NameTerms, NameText, NameRenewal, NameLast, Renew as Renewing, RenewLast, Select as Selecting, Answer as Answering, Cancel as Cancelling, Lose as Losing, Take as Taking, Reject as Rejecting, Close, Spent}
+use Rattle.request_machine.specs.declared.stage.Stage.TheVariants.{Call as Calling, Learn, Draw, Ask, Spent, SpentEnd, NameSpace, NameTerms, NameRenewal, NameLast, Renew as Renewing, RenewLast, Select as Selecting, Answer as Answering, Cancel as Cancelling, Lose as Losing, Take as Taking, Reject as Rejecting, Close}
 use Rattle.request_machine.specs.Kept.{Kept, terms_kept}
 use Rattle.request_machine.specs.Changed.{holding}
 use Rattle.request_machine.specs.Needs.{first_left}
@@ -73,39 +75,8 @@ IsTold s m stage (Ref numbers) = AreTermsNumbered s m stage numbers.terms
 IsTold s m (Learn t OfSpace) (Space space) = IsSpaceTold s m t space
 IsTold s m (Learn t OfIdentity) (Identity identity) = IsIdentityTold s m t identity
 IsTold s m (Learn t OfTerms) (Terms terms nonce) = IsTermsTold s m t (record { terms = terms; nonce = nonce })
+IsTold s m (Ask p ordinal) (Space space) = s.space_of p.space ≡ Some space
 IsTold s m stage gave = Unit {0}
-
--- WHERE A NAME LEADS
-
--- where a request stands once the space or the text that was to be named has a number
-abbrev pub stage_numbered : Kept → Stage → ℕ → Stage
-stage_numbered m (NameSpace t) n = if is_some m.unnamed_terms then NameTerms t n else Selecting t n 0
-stage_numbered m (NameText p) n = Answering p n
-stage_numbered m stage n = stage
-
--- once the terms have one
-abbrev pub stage_with_terms : Stage → ℕ → Stage
-stage_with_terms (NameTerms t space) n = Selecting t space n
-stage_with_terms (NameRenewal t gift) n = Renewing t gift n
-stage_with_terms (NameLast t gift c) n = RenewLast t gift n c
-stage_with_terms stage n = stage
-
--- where there was no memory to tell what was asked for
-abbrev pub stage_untold : Stage → Stage
-stage_untold (Learn t piece) = Spent
-stage_untold (NameSpace t) = Spent
-stage_untold (NameTerms t space) = Spent
-stage_untold (NameText p) = Spent
-stage_untold (NameRenewal t gift) = Spent
-stage_untold (NameLast t gift c) = Spent
-stage_untold stage = stage
-
--- 0 is no name
-abbrev pub IsNamedIn : Kept → Gave → Stage → Type 0
-IsNamedIn m (Number n) now = now ≡ (if n == 0 then m.stage else stage_numbered m m.stage n)
-IsNamedIn m (Ref numbers) now = now ≡ (if numbers.terms == 0 then m.stage else stage_with_terms m.stage numbers.terms)
-IsNamedIn m NoMemory now = now ≡ stage_untold m.stage
-IsNamedIn m gave now = Unit {0}
 
 -- WHAT IS HEARD
 
@@ -147,7 +118,20 @@ is_heard (RenewLast t gift terms c) reply = true
 is_heard (Close c) reply = true
 is_heard stage reply = false
 
--- the answer to a call is heard
-abbrev pub IsHeardIn : Stage → Gave → List Event → List Event → Type 0
-IsHeardIn stage (Reply reply) before now = IsTrue (is_heard stage reply) → now ≡ Called (call_at stage) reply ∷ before
-IsHeardIn stage gave before now = Unit {0}
+-- what a past becomes by the reply to the call that was asked for; where memory ran out there is one reply to each
+abbrev pub past_replied : Kept → Stage → BookReply → List Event
+past_replied m Spent reply = (if m.prompt == 0 then Called CallEnd RequestEnded else Called (Lose m.prompt Memory) (Lost Memory)) ∷ m.past
+past_replied m SpentEnd reply = Called CallEnd RequestEnded ∷ m.past
+past_replied m stage reply = if is_heard stage reply then Called (call_at stage) reply ∷ m.past else m.past
+
+-- and by the count that was drawn
+abbrev pub past_drawn : Kept → Stage → CountDrawn → List Event
+past_drawn m (Draw Proxy nonce) drawn = Drew Proxy nonce drawn.count drawn.epoch ∷ m.past
+past_drawn m (Draw Server nonce) drawn = Drew Server nonce drawn.count drawn.epoch ∷ m.past
+past_drawn m stage drawn = m.past
+
+-- what the past becomes by what the caller gives
+abbrev pub past_given : Kept → Gave → List Event
+past_given m (Reply reply) = past_replied m m.stage reply
+past_given m (Drawn drawn) = past_drawn m m.stage drawn
+past_given m gave = m.past

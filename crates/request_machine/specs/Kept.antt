@@ -77,6 +77,8 @@ pub record Kept : Type 0 where
   -- the space and the terms that are to be named
   pub unnamed_space : Option ProtectionSpace
   pub unnamed_terms : Option Terms
+  -- the space of the prompt that is asked next, once the book has told it
+  pub space : Option ProtectionSpace
   -- the link that is open
   pub link : Option LinkName
 
@@ -84,11 +86,6 @@ pub record Kept : Type 0 where
 abbrev pub IsLinkOpen : Option LinkName → List LinkName → Type 0
 IsLinkOpen None opened = ⊥
 IsLinkOpen (Some link) opened = has_link_name link opened ≡ true
-
--- a link that was dialed since the last head is open, and else there is none
-abbrev pub IsLinkAsDialed : Bool → Option LinkName → List LinkName → Type 0
-IsLinkAsDialed true link opened = IsLinkOpen link opened
-IsLinkAsDialed false link opened = link ≡ None
 
 -- the setting is of this request
 pub record IsOf (s : Setting) (request : Request) (number : ℕ) (seed : List ℕ) : Type 0 where

@@ -8,6 +8,9 @@ pub mod Replies
 pub mod Needs
 pub mod Renewals
 pub mod Turns
+pub mod Rooms
+pub mod Linked
+pub mod Driven
 pub mod Asking
 pub mod Reads
 pub mod Gives

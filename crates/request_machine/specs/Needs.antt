@@ -1,5 +1,5 @@
 -- What a machine asks of its caller, and what that says of the rule.
-use Rattle.std.specs.Prelude.{ℕ, ◌≡◌, ◌==◌, Bool, true, false, Option, Some, None, IsSome, option_map, if◌then◌else◌}
+use Rattle.std.specs.Prelude.{ℕ, ◌≡◌, ◌==◌, Bool, true, false, Option, Some, None, IsSome, is_some, option_map, if◌then◌else◌}
 use Rattle.auth_events.specs.declared.journal.Gift.{Gift}
 use Rattle.auth_events.specs.declared.journal.Loss.TheVariants.{Memory}
 use Rattle.auth_events.specs.declared.journal.Call.{Call}
@@ -13,7 +13,7 @@ use Rattle.request_machine.specs.declared.need.Need.TheVariants.{Book, SpaceNo, 
 use Rattle.request_machine.specs.declared.stage.Piece.{Piece}
 use Rattle.request_machine.specs.declared.stage.Piece.TheVariants.{Space, Identity, Terms}
 use Rattle.request_machine.specs.declared.stage.Stage.{Stage}
-use Rattle.request_machine.specs.declared.stage.Stage.TheVariants.{Call as Calling, Learn, Draw, NameSpace, NameTerms, NameText, NameRenewal, NameLast, Select as Selecting, Reject as Rejecting, Renew as Renewing, RenewLast, Answer as Answering, Cancel as Cancelling, Lose as Losing, Take as Taking, Close, Spent, SpentEnd, Over}
+use Rattle.request_machine.specs.declared.stage.Stage.TheVariants.{Call as Calling, Learn, Draw, Ask, NameSpace, NameTerms, NameText, NameRenewal, NameLast, Select as Selecting, Reject as Rejecting, Renew as Renewing, RenewLast, Answer as Answering, Cancel as Cancelling, Lose as Losing, Take as Taking, Close, Spent, SpentEnd, Over}
 use Rattle.request_machine.specs.Kept.{Kept, IsSpacePicked, AreTermsPicked, IsStale, IsRenewalLeft}
 use Rattle.request_machine.specs.Changed.{holding}
 
@@ -59,6 +59,7 @@ need_at m (NameLast t gift c) = option_map (TermsNo gift.space) m.unnamed_terms
 need_at m (NameText p) = option_map TextNo m.given
 need_at m (Learn t piece) = option_map (need_of piece) (holding m t)
 need_at m (Draw t nonce) = Some (DrawNeed nonce)
+need_at m (Ask p ordinal) = if is_some m.space then None else Some (SpaceOf p.space)
 need_at m (Close c) = Some (Book (first_left c.proxy c.server))
 need_at m Spent = Some (Book (spent_call m.prompt))
 need_at m SpentEnd = Some (Book CallEnd)

@@ -1,34 +1,16 @@
--- Links as a turn of the machine finds them.
-use Rattle.std.specs.Prelude.{◌≡◌, ◌+◌, Bool, true, false, List, Some, None}
+-- Turns of a machine: what it does by itself, one after another, until it asks for something.
+use Rattle.std.specs.Prelude.{ℕ, ◌≡◌, ◌+◌, Bool, true, false, List, Some, None, is_some, if◌then◌else◌}
 use Rattle.std.specs.declared.option.Option.{Option}
 use Rattle.link_trait.specs.declared.links.LinkName.{LinkName}
-use Rattle.link_trait.specs.declared.dialer.Dial.{Dial}
-use Rattle.link_trait.specs.Links.{has_link, without_link, IsUndialed}
+use Rattle.link_trait.specs.Links.{has_link, without_link}
+use Rattle.spaces.specs.declared.site.Target.TheVariants.{Proxy}
 use Rattle.request_machine.specs.declared.stage.Stage.{Stage}
-use Rattle.request_machine.specs.declared.stage.Stage.TheVariants.{Go, Learn, Draw, Read}
-use Rattle.request_machine.specs.Kept.{Kept, IsLinkOpen, IsLinkAsDialed}
+use Rattle.request_machine.specs.declared.stage.Stage.TheVariants.{Go, Learn, Choose, Read, Ask, NextNonce, End, SpentOver}
+use Rattle.request_machine.specs.Kept.{Kept}
+use Rattle.request_machine.specs.Needs.{need_at}
 
 abbrev pub next_link : Kept → LinkName
 next_link m = record { request = m.number; nth = m.links + 1 }
-
--- on the way to a head the link that was dialed is open, and the next one was not dialed
-pub record IsOnItsWay (m : Kept) (opened : List LinkName) (dials : Option (List Dial)) : Type 0 where
-  pub link : IsLinkAsDialed m.is_dialed m.link opened
-  pub closed : has_link (next_link m) opened ≡ false
-  pub fresh : IsUndialed (next_link m) dials
-
-abbrev pub IsFitAt : Stage → Kept → List LinkName → Option (List Dial) → Type 0
-IsFitAt Go m opened dials = IsOnItsWay m opened dials
-IsFitAt (Read link) m opened dials = IsLinkOpen m.link opened
-IsFitAt stage m opened dials = Unit {0}
-
--- a link may be open: on the way to a head, and before its reply
-abbrev pub is_under_way : Stage → Bool
-is_under_way Go = true
-is_under_way (Learn t piece) = true
-is_under_way (Draw t nonce) = true
-is_under_way (Read link) = true
-is_under_way stage = false
 
 -- where there is a link, it is open
 abbrev pub IsLinkKept : Option LinkName → List LinkName → Type 0
@@ -39,3 +21,32 @@ IsLinkKept (Some link) opened = has_link link opened ≡ true
 abbrev pub opened_without : Option LinkName → List LinkName → List LinkName
 opened_without None opened = opened
 opened_without (Some link) opened = without_link link opened
+
+-- HOW MANY TURNS ARE LEFT
+
+-- something is asked of the caller
+abbrev pub is_asking : Kept → Bool
+is_asking m = is_some (need_at m m.stage)
+
+-- the machine goes on by itself
+abbrev pub is_going : Stage → Bool
+is_going Go = true
+is_going (Learn t piece) = true
+is_going (Choose t) = true
+is_going (Read link) = true
+is_going (Ask p ordinal) = true
+is_going (NextNonce t c) = true
+is_going (End outcome) = true
+is_going SpentOver = true
+is_going stage = false
+
+abbrev pub turns_at : Stage → Bool → ℕ
+turns_at (Learn t piece) dialed = 6
+turns_at Go dialed = if dialed then 4 else 5
+turns_at (Read link) dialed = 3
+turns_at (NextNonce Proxy c) dialed = 2
+turns_at stage dialed = 1
+
+-- at most so many turns are left until the machine asks
+abbrev pub turns_left : Kept → ℕ
+turns_left m = if is_asking m then 0 else turns_at m.stage m.is_dialed

@@ -16,13 +16,16 @@ use link_trait::{AskSeen, Asked, Prompter};
 use spaces::{Space, Target, same_target};
 
 impl Machine {
-    ghost use Rattle.std.specs.Prelude.{◌≡◌, ◌<◌, ◌∷◌, IsTrue, IsSome, Some, length, not, ◌==◌, List, Option};
+    ghost use Rattle.std.specs.Prelude.{◌≡◌, ◌<◌, ◌∷◌, IsTrue, IsSome, Some, None, is_some, true, length, not, ◌==◌, List, Option};
     ghost use Rattle.link_trait.specs.Told.{grown};
     ghost use Rattle.link_trait.specs.declared.prompts.Ask.{Ask};
     ghost use Rattle.trace_rule.specs.Settings.{Setting};
     ghost use Rattle.trace_rule.specs.Traces.{suits};
     ghost use Rattle.trace_rule.specs.Telling.{prompted};
-    ghost use Rattle.request_machine.specs.Asking.{refused_by};
+    ghost use Rattle.request_machine.specs.Driven.{insides};
+    ghost use Rattle.request_machine.specs.Asking.{refused_by, IsAskedIn};
+    ghost use Rattle.request_machine.specs.Turns.{is_asking};
+    ghost use Rattle.request_machine.specs.Linked.{line, way, goes_on, is_away, IsLinked};
     ghost use Rattle.request_machine.specs.Kept.{Ties};
 
     /// The book made the request lead a prompt.
@@ -32,6 +35,8 @@ impl Machine {
         requires stage { self.old.stage ≡ Stage.Select target space terms }
         ensures past { self.new.past
             ≡ Event.Called (Call.Select space terms) (BookReply.Lead number ordinal) ∷ self.old.past }
+        ensures kept { line self.new ≡ line self.old }
+        ensures goes { IsTrue (goes_on (way self.old.stage) (way self.new.stage)) }
         ensures ties { (s : Setting)
             → IsTrue (suits s self.old.past (Call.Select space terms) (BookReply.Lead number ordinal))
             → Ties s self.old → Ties s self.new }
@@ -68,6 +73,9 @@ impl Machine {
         requires stage { self.old.stage ≡ Stage.Ask prompt ordinal }
         requires kept { given ≡ AskSeen.Given → IsSome self.old.given }
         ensures past { self.new.past ≡ Event.AskedFor prompt.number given ∷ self.old.past }
+        ensures kept { line self.new ≡ line self.old }
+        ensures away { IsTrue (is_away (way self.new.stage)) }
+        ensures asks { is_asking self.new ≡ true }
         ensures ties { (s : Setting) → Ties s self.old → Ties s self.new }
     {
         self.push(Event::AskedFor {
@@ -78,7 +86,7 @@ impl Machine {
     }
 
     /// Asks the user for an identity.
-    #[tactic(auto, using(crate::proofs::Prompting::given_kept_ties))]
+    #[tactic(auto, using(crate::proofs::Asking::given_kept_ties))]
     pub(crate) fn ask<P: Prompter>(
         &mut self,
         prompter: &mut P,
@@ -94,6 +102,11 @@ impl Machine {
             → P.told prompter.old ≡ grown before (prompted s self.old.past)
             → P.told prompter.new ≡ grown before (prompted s self.new.past) }
         ensures answers { P.answers prompter.new ≡ P.answers prompter.old }
+        ensures past { IsAskedIn prompt.number self.old.past self.new.past }
+        ensures insides { insides self.new.past ≡ insides self.old.past }
+        ensures kept { line self.new ≡ line self.old }
+        ensures away { IsTrue (is_away (way self.new.stage)) }
+        ensures asks { is_asking self.new ≡ true }
     {
         match prompter.ask(space, ordinal) {
             Asked::Given(identity) => {
@@ -109,12 +122,49 @@ impl Machine {
         }
     }
 
+    /// The space that is asked for, which was told; then it is so no more.
+    #[tactic(auto, using(crate::proofs::Beside::spaced_ties))]
+    fn take_space(&mut self) -> Option<Space>
+        ensures value { result ≡ self.old.space }
+        ensures rest { self.new ≡ record self.old { space = None } }
+        ensures ties { (s : Setting) → Ties s self.old → Ties s self.new }
+    {
+        self.space.take()
+    }
+
+    /// Asks the user for an identity in the space that was told.
+    #[tactic(auto, using(crate::proofs::Asking::asked_behind))]
+    pub(crate) fn ask_next<P: Prompter>(&mut self, prompter: &mut P, prompt: Prompt, ordinal: u32)
+        requires room { length self.old.past < 256 }
+        requires stage { self.old.stage ≡ Stage.Ask prompt ordinal }
+        requires told { is_some self.old.space ≡ true }
+        requires linked { IsLinked self.old }
+        ensures ties { (s : Setting) → Ties s self.old → Ties s self.new }
+        ensures prompted { (s : Setting) (before : Option (List Ask)) → Ties s self.old
+            → self.old.space ≡ s.space_of prompt.space
+            → P.told prompter.old ≡ grown before (prompted s self.old.past)
+            → P.told prompter.new ≡ grown before (prompted s self.new.past) }
+        ensures answers { P.answers prompter.new ≡ P.answers prompter.old }
+        ensures past { IsAskedIn prompt.number self.old.past self.new.past }
+        ensures insides { insides self.new.past ≡ insides self.old.past }
+        ensures line { line self.new ≡ record (line self.old) { space = None } }
+        ensures away { IsTrue (is_away (way self.new.stage)) }
+        ensures asks { is_asking self.new ≡ true }
+    {
+        match self.take_space() {
+            Some(space) => self.ask(prompter, prompt, ordinal, &space),
+            None => unreachable!(),
+        }
+    }
+
     /// The identity that the user gave has a number.
-    #[tactic(auto, using(crate::proofs::Prompting::text_named_ties))]
+    #[tactic(auto, using(crate::proofs::Asking::text_named_ties))]
     pub(crate) fn text_named(&mut self, prompt: Prompt, text: u32)
         requires stage { self.old.stage ≡ Stage.NameText prompt }
         requires text { IsTrue (not (text == 0)) }
-        ensures stage { self.new.stage ≡ Stage.Answer prompt text }
+        ensures past { self.new.past ≡ self.old.past }
+        ensures kept { line self.new ≡ line self.old }
+        ensures goes { IsTrue (goes_on (way self.old.stage) (way self.new.stage)) }
         ensures ties { (s : Setting) → Ties s self.old → Ties s self.new }
     {
         self.stage = Stage::Answer(prompt, text);
@@ -126,6 +176,8 @@ impl Machine {
         requires stage { self.old.stage ≡ Stage.Answer prompt text }
         ensures past { self.new.past
             ≡ Event.Called (Call.Answer prompt.number text prompt.terms) (BookReply.Given gift evicted) ∷ self.old.past }
+        ensures kept { line self.new ≡ line self.old }
+        ensures goes { IsTrue (goes_on (way self.old.stage) (way self.new.stage)) }
         ensures ties { (s : Setting)
             → IsTrue (suits s self.old.past (Call.Answer prompt.number text prompt.terms)
             (BookReply.Given gift evicted))
@@ -163,6 +215,8 @@ impl Machine {
         requires stage { self.old.stage ≡ Stage.Cancel prompt }
         ensures past { self.new.past
             ≡ Event.Called (Call.Answer prompt.number 0 prompt.terms) BookReply.Cancelled ∷ self.old.past }
+        ensures kept { line self.new ≡ line self.old }
+        ensures goes { IsTrue (goes_on (way self.old.stage) (way self.new.stage)) }
         ensures ties { (s : Setting)
             → IsTrue (suits s self.old.past (Call.Answer prompt.number 0 prompt.terms)
             BookReply.Cancelled)
@@ -187,6 +241,8 @@ impl Machine {
         requires stage { self.old.stage ≡ Stage.Lose prompt loss }
         ensures past { self.new.past
             ≡ Event.Called (Call.Lose prompt.number loss) (BookReply.Lost told) ∷ self.old.past }
+        ensures kept { line self.new ≡ line self.old }
+        ensures goes { IsTrue (goes_on (way self.old.stage) (way self.new.stage)) }
         ensures ties { (s : Setting)
             → IsTrue (suits s self.old.past (Call.Lose prompt.number loss) (BookReply.Lost told))
             → Ties s self.old → Ties s self.new }
@@ -203,12 +259,14 @@ impl Machine {
     }
 
     /// The book made the request follow a prompt.
-    #[tactic(auto, using(crate::proofs::Prompting::followed_ties))]
+    #[tactic(auto, using(crate::proofs::Following::followed_ties))]
     pub(crate) fn followed(&mut self, target: Target, space: u32, terms: u32, number: u32)
         requires room { length self.old.past < 256 }
         requires stage { self.old.stage ≡ Stage.Select target space terms }
         ensures past { self.new.past
             ≡ Event.Called (Call.Select space terms) (BookReply.Follow number) ∷ self.old.past }
+        ensures kept { line self.new ≡ line self.old }
+        ensures goes { IsTrue (goes_on (way self.old.stage) (way self.new.stage)) }
         ensures ties { (s : Setting)
             → IsTrue (suits s self.old.past (Call.Select space terms) (BookReply.Follow number))
             → Ties s self.old → Ties s self.new }
@@ -231,6 +289,8 @@ impl Machine {
         requires stage { self.old.stage ≡ Stage.Take prompt }
         ensures past { self.new.past
             ≡ Event.Called (Call.Take prompt.number) (BookReply.Gave gift) ∷ self.old.past }
+        ensures kept { line self.new ≡ line self.old }
+        ensures goes { IsTrue (goes_on (way self.old.stage) (way self.new.stage)) }
         ensures ties { (s : Setting)
             → IsTrue (suits s self.old.past (Call.Take prompt.number) (BookReply.Gave gift))
             → Ties s self.old → Ties s self.new }
@@ -251,6 +311,8 @@ impl Machine {
         requires stage { self.old.stage ≡ Stage.Take prompt }
         ensures past { self.new.past
             ≡ Event.Called (Call.Take prompt.number) BookReply.Cancelled ∷ self.old.past }
+        ensures kept { line self.new ≡ line self.old }
+        ensures goes { IsTrue (goes_on (way self.old.stage) (way self.new.stage)) }
         ensures ties { (s : Setting)
             → IsTrue (suits s self.old.past (Call.Take prompt.number) BookReply.Cancelled)
             → Ties s self.old → Ties s self.new }
@@ -271,6 +333,8 @@ impl Machine {
         requires stage { self.old.stage ≡ Stage.Take prompt }
         ensures past { self.new.past
             ≡ Event.Called (Call.Take prompt.number) (BookReply.Lost loss) ∷ self.old.past }
+        ensures kept { line self.new ≡ line self.old }
+        ensures goes { IsTrue (goes_on (way self.old.stage) (way self.new.stage)) }
         ensures ties { (s : Setting)
             → IsTrue (suits s self.old.past (Call.Take prompt.number) (BookReply.Lost loss))
             → Ties s self.old → Ties s self.new }

@@ -15,6 +15,7 @@ impl Machine {
     ghost use Rattle.std.specs.Prelude.{◌≡◌, ◌∷◌, ◌<◌, IsTrue, length};
     ghost use Rattle.trace_rule.specs.Settings.{Setting};
     ghost use Rattle.trace_rule.specs.Traces.{suits};
+    ghost use Rattle.request_machine.specs.Linked.{line, way, goes_on};
     ghost use Rattle.request_machine.specs.Kept.{Ties};
 
     /// The request was begun.
@@ -23,6 +24,8 @@ impl Machine {
         requires room { length self.old.past < 256 }
         requires stage { self.old.stage ≡ Stage.Call Call.Begin }
         ensures past { self.new.past ≡ Event.Called Call.Begin reply ∷ self.old.past }
+        ensures kept { line self.new ≡ line self.old }
+        ensures goes { IsTrue (goes_on (way self.old.stage) (way self.new.stage)) }
         ensures ties { (s : Setting) → IsTrue (suits s self.old.past Call.Begin reply)
             → Ties s self.old → Ties s self.new }
     {
@@ -41,6 +44,8 @@ impl Machine {
         requires stage { self.old.stage ≡ Stage.Call (Call.Preempt Target.Proxy) }
         ensures past { self.new.past
             ≡ Event.Called (Call.Preempt Target.Proxy) reply ∷ self.old.past }
+        ensures kept { line self.new ≡ line self.old }
+        ensures goes { IsTrue (goes_on (way self.old.stage) (way self.new.stage)) }
         ensures ties { (s : Setting)
             → IsTrue (suits s self.old.past (Call.Preempt Target.Proxy) reply) → Ties s self.old
             → Ties s self.new }
@@ -65,6 +70,8 @@ impl Machine {
         requires stage { self.old.stage ≡ Stage.Call (Call.Preempt Target.Server) }
         ensures past { self.new.past
             ≡ Event.Called (Call.Preempt Target.Server) reply ∷ self.old.past }
+        ensures kept { line self.new ≡ line self.old }
+        ensures goes { IsTrue (goes_on (way self.old.stage) (way self.new.stage)) }
         ensures ties { (s : Setting)
             → IsTrue (suits s self.old.past (Call.Preempt Target.Server) reply) → Ties s self.old
             → Ties s self.new }

@@ -17,6 +17,8 @@ impl Machine {
     ghost use Rattle.request_machine.specs.Changed.{holding};
     ghost use Rattle.request_machine.specs.Chosen.{decision_at};
     ghost use Rattle.request_machine.specs.Kept.{Ties};
+    ghost use Rattle.request_machine.specs.Turns.{turns_left};
+    ghost use Rattle.request_machine.specs.Linked.{line, way, is_away};
     ghost use Rattle.request_machine.specs.Told.{IsReady, held_last};
 
     /// The reply challenges the target, and decides nothing on what is held for it: that is dropped, and
@@ -28,6 +30,9 @@ impl Machine {
         requires few { self.old.rounds < 16 }
         requires ready { IfSome (holding self.old target) IsReady }
         ensures past { self.new.past ≡ Event.Replied link reply ∷ self.old.past }
+        ensures kept { line self.new ≡ line self.old }
+        ensures away { IsTrue (is_away (way self.new.stage)) }
+        ensures left { turns_left self.new < 3 }
         ensures ties { (s : Setting) → decision_at self.old s.request reply target ≡ None
             → challenged s reply ≡ Some target → Ties s self.old → Ties s self.new }
     {
@@ -47,6 +52,9 @@ impl Machine {
         requires few { self.old.rounds < 16 }
         requires ready { IfSome (holding self.old target) IsReady }
         ensures past { self.new.past ≡ Event.Replied link reply ∷ self.old.past }
+        ensures kept { line self.new ≡ line self.old }
+        ensures away { IsTrue (is_away (way self.new.stage)) }
+        ensures left { turns_left self.new < 3 }
         ensures ties { (s : Setting) → decision_at self.old s.request reply target
             ≡ Some (record { gift = gift; terms = None })
             → challenged s reply ≡ Some target → Ties s self.old → Ties s self.new }
@@ -66,6 +74,9 @@ impl Machine {
         requires few { self.old.rounds < 16 }
         requires ready { IfSome (holding self.old target) IsReady }
         ensures past { self.new.past ≡ Event.Replied link reply ∷ self.old.past }
+        ensures kept { line self.new ≡ line self.old }
+        ensures away { IsTrue (is_away (way self.new.stage)) }
+        ensures left { turns_left self.new < 3 }
         ensures ties { (s : Setting) → decision_at self.old s.request reply target
             ≡ Some (record { gift = gift; terms = Some terms })
             → challenged s reply ≡ Some target → Ties s self.old → Ties s self.new }
@@ -100,6 +111,9 @@ impl Machine {
         requires few { self.old.rounds < 256 }
         requires ready { IfSome (holding self.old target) IsReady }
         ensures past { self.new.past ≡ Event.Replied link reply ∷ self.old.past }
+        ensures kept { line self.new ≡ line self.old }
+        ensures away { IsTrue (is_away (way self.new.stage)) }
+        ensures left { turns_left self.new < 3 }
         ensures ties { (s : Setting) → is_some (decision_at self.old s.request reply target) ≡ decides
             → challenged s reply ≡ Some target → Ties s self.old → Ties s self.new }
     {
@@ -129,6 +143,9 @@ impl Machine {
         requires few { self.old.rounds < 256 }
         requires ready { IfSome (holding self.old target) IsReady }
         ensures past { self.new.past ≡ Event.Replied link reply ∷ self.old.past }
+        ensures kept { line self.new ≡ line self.old }
+        ensures away { IsTrue (is_away (way self.new.stage)) }
+        ensures left { turns_left self.new < 3 }
         ensures ties { (s : Setting) → decision_at self.old s.request reply target ≡ decision
             → challenged s reply ≡ Some target → Ties s self.old → Ties s self.new }
     {

@@ -11,10 +11,12 @@ use auth_runs::{Event, Outcome, Why};
 use spaces::{Target, same_target};
 
 impl Machine {
-    ghost use Rattle.std.specs.Prelude.{◌≡◌, ◌∷◌, ◌<◌, IsTrue, Some, None, length};
+    ghost use Rattle.std.specs.Prelude.{◌≡◌, ◌∷◌, ◌<◌, IsTrue, Some, None, length, true};
     ghost use Rattle.trace_rule.specs.Settings.{Setting};
     ghost use Rattle.trace_rule.specs.Traces.{suits};
     ghost use Rattle.request_machine.specs.Chosen.{IsBest};
+    ghost use Rattle.request_machine.specs.Turns.{is_asking};
+    ghost use Rattle.request_machine.specs.Linked.{line, way, goes_on};
     ghost use Rattle.request_machine.specs.Kept.{Ties};
     ghost use Rattle.request_machine.specs.Told.{held_chosen, held_rejected};
 
@@ -23,6 +25,9 @@ impl Machine {
         requires stage { self.old.stage ≡ Stage.Choose target }
         requires none { IsBest self.old.past None }
         ensures past { self.new.past ≡ self.old.past }
+        ensures asks { is_asking self.new ≡ true }
+        ensures kept { line self.new ≡ line self.old }
+        ensures goes { IsTrue (goes_on (way self.old.stage) (way self.new.stage)) }
         ensures ties { (s : Setting) → Ties s self.old → Ties s self.new }
     {
         let closing = Closing {
@@ -54,6 +59,8 @@ impl Machine {
         requires stage { self.old.stage ≡ Stage.Select target space terms }
         ensures past { self.new.past
             ≡ Event.Called (Call.Select space terms) (BookReply.Cached gift) ∷ self.old.past }
+        ensures kept { line self.new ≡ line self.old }
+        ensures goes { IsTrue (goes_on (way self.old.stage) (way self.new.stage)) }
         ensures ties { (s : Setting)
             → IsTrue (suits s self.old.past (Call.Select space terms) (BookReply.Cached gift))
             → Ties s self.old → Ties s self.new }
@@ -79,6 +86,8 @@ impl Machine {
         requires stage { self.old.stage ≡ Stage.Select target space terms }
         ensures past { self.new.past
             ≡ Event.Called (Call.Select space terms) (BookReply.Url gift evicted) ∷ self.old.past }
+        ensures kept { line self.new ≡ line self.old }
+        ensures goes { IsTrue (goes_on (way self.old.stage) (way self.new.stage)) }
         ensures ties { (s : Setting)
             → IsTrue (suits s self.old.past (Call.Select space terms) (BookReply.Url gift evicted))
             → Ties s self.old → Ties s self.new }
@@ -97,6 +106,8 @@ impl Machine {
         requires stage { self.old.stage ≡ Stage.Select target space terms }
         ensures past { self.new.past
             ≡ Event.Called (Call.Select space terms) BookReply.Default ∷ self.old.past }
+        ensures kept { line self.new ≡ line self.old }
+        ensures goes { IsTrue (goes_on (way self.old.stage) (way self.new.stage)) }
         ensures ties { (s : Setting)
             → IsTrue (suits s self.old.past (Call.Select space terms) BookReply.Default)
             → Ties s self.old → Ties s self.new }
@@ -115,6 +126,8 @@ impl Machine {
         requires stage { self.old.stage ≡ Stage.Reject target gift }
         ensures past { self.new.past
             ≡ Event.Called (Call.Reject gift.space gift.ordinal) reply ∷ self.old.past }
+        ensures kept { line self.new ≡ line self.old }
+        ensures goes { IsTrue (goes_on (way self.old.stage) (way self.new.stage)) }
         ensures ties { (s : Setting)
             → IsTrue (suits s self.old.past (Call.Reject gift.space gift.ordinal) reply)
             → Ties s self.old → Ties s self.new }

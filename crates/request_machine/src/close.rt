@@ -10,9 +10,11 @@ use auth_events::{BookReply, Call, Gift};
 use auth_runs::{Event, Outcome};
 
 impl Machine {
-    ghost use Rattle.std.specs.Prelude.{◌≡◌, ◌<◌, ◌∷◌, [], IsTrue, length};
+    ghost use Rattle.std.specs.Prelude.{◌≡◌, ◌<◌, ◌∷◌, [], IsTrue, true, length};
     ghost use Rattle.trace_rule.specs.Settings.{Setting};
     ghost use Rattle.trace_rule.specs.Traces.{suits};
+    ghost use Rattle.request_machine.specs.Turns.{is_asking};
+    ghost use Rattle.request_machine.specs.Linked.{line, way, goes_on};
     ghost use Rattle.request_machine.specs.Kept.{Ties, calls_left};
 
     /// The book was told what to note.
@@ -23,6 +25,8 @@ impl Machine {
         requires outcome { rest.outcome ≡ closing.outcome }
         requires left { calls_left closing ≡ Call.Note gift ∷ calls_left rest }
         ensures past { self.new.past ≡ Event.Called (Call.Note gift) reply ∷ self.old.past }
+        ensures kept { line self.new ≡ line self.old }
+        ensures goes { IsTrue (goes_on (way self.old.stage) (way self.new.stage)) }
         ensures ties { (s : Setting) → IsTrue (suits s self.old.past (Call.Note gift) reply)
             → Ties s self.old → Ties s self.new }
     {
@@ -40,6 +44,8 @@ impl Machine {
         requires stage { self.old.stage ≡ Stage.Close closing }
         requires left { calls_left closing ≡ Call.End ∷ [] }
         ensures past { self.new.past ≡ Event.Called Call.End reply ∷ self.old.past }
+        ensures kept { line self.new ≡ line self.old }
+        ensures goes { IsTrue (goes_on (way self.old.stage) (way self.new.stage)) }
         ensures ties { (s : Setting) → IsTrue (suits s self.old.past Call.End reply)
             → Ties s self.old → Ties s self.new }
     {
@@ -56,6 +62,9 @@ impl Machine {
         requires room { length self.old.past < 256 }
         requires stage { self.old.stage ≡ Stage.End outcome }
         ensures past { self.new.past ≡ Event.Ended outcome ∷ self.old.past }
+        ensures asks { is_asking self.new ≡ true }
+        ensures kept { line self.new ≡ line self.old }
+        ensures goes { IsTrue (goes_on (way self.old.stage) (way self.new.stage)) }
         ensures ties { (s : Setting) → Ties s self.old → Ties s self.new }
     {
         self.push(Event::Ended { outcome });

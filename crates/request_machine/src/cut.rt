@@ -9,8 +9,10 @@ use auth_events::{BookReply, Call, Loss};
 use auth_runs::{Event, Outcome};
 
 impl Machine {
-    ghost use Rattle.std.specs.Prelude.{◌≡◌, ◌<◌, ◌∷◌, length, false, true, ◌==◌};
+    ghost use Rattle.std.specs.Prelude.{◌≡◌, ◌<◌, ◌∷◌, length, false, true, ◌==◌, IsTrue};
     ghost use Rattle.trace_rule.specs.Settings.{Setting};
+    ghost use Rattle.request_machine.specs.Turns.{is_asking};
+    ghost use Rattle.request_machine.specs.Linked.{line, way, goes_on, is_away};
     ghost use Rattle.request_machine.specs.Kept.{Ties, is_regular, can_stop};
 
     /// Memory ran out.
@@ -20,7 +22,10 @@ impl Machine {
         requires stop { can_stop self.old.stage ≡ true }
         ensures stage { self.new.stage ≡ Stage.Spent }
         ensures past { self.new.past ≡ self.old.past }
-        ensures link { self.new.link ≡ self.old.link }
+        ensures asks { is_asking self.new ≡ true }
+        ensures away { IsTrue (is_away (way self.new.stage)) }
+        ensures kept { line self.new ≡ line self.old }
+        ensures goes { IsTrue (goes_on (way self.old.stage) (way self.new.stage)) }
         ensures ties { (s : Setting) → Ties s self.old → Ties s self.new }
     {
         self.stage = Stage::Spent;
@@ -34,6 +39,8 @@ impl Machine {
         requires some { (self.old.prompt == 0) ≡ false }
         ensures past { self.new.past
             ≡ Event.Called (Call.Lose self.old.prompt Loss.Memory) (BookReply.Lost Loss.Memory) ∷ self.old.past }
+        ensures kept { line self.new ≡ line self.old }
+        ensures goes { IsTrue (goes_on (way self.old.stage) (way self.new.stage)) }
         ensures ties { (s : Setting) → Ties s self.old → Ties s self.new }
     {
         self.push(Event::Called {
@@ -54,6 +61,8 @@ impl Machine {
         requires stage { self.old.stage ≡ Stage.Spent }
         requires none { (self.old.prompt == 0) ≡ true }
         ensures past { self.new.past ≡ Event.Called Call.End BookReply.Ended ∷ self.old.past }
+        ensures kept { line self.new ≡ line self.old }
+        ensures goes { IsTrue (goes_on (way self.old.stage) (way self.new.stage)) }
         ensures ties { (s : Setting) → Ties s self.old → Ties s self.new }
     {
         self.push(Event::Called {
@@ -69,6 +78,8 @@ impl Machine {
         requires room { length self.old.past < 256 }
         requires stage { self.old.stage ≡ Stage.SpentEnd }
         ensures past { self.new.past ≡ Event.Called Call.End BookReply.Ended ∷ self.old.past }
+        ensures kept { line self.new ≡ line self.old }
+        ensures goes { IsTrue (goes_on (way self.old.stage) (way self.new.stage)) }
         ensures ties { (s : Setting) → Ties s self.old → Ties s self.new }
     {
         self.push(Event::Called {
@@ -84,6 +95,9 @@ impl Machine {
         requires room { length self.old.past < 256 }
         requires stage { self.old.stage ≡ Stage.SpentOver }
         ensures past { self.new.past ≡ Event.Ended Outcome.NoMemory ∷ self.old.past }
+        ensures asks { is_asking self.new ≡ true }
+        ensures kept { line self.new ≡ line self.old }
+        ensures goes { IsTrue (goes_on (way self.old.stage) (way self.new.stage)) }
         ensures ties { (s : Setting) → Ties s self.old → Ties s self.new }
     {
         self.push(Event::Ended {

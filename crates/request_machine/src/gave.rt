@@ -34,14 +34,16 @@ pub enum Gave {
 }
 
 impl Machine {
-    ghost use Rattle.std.specs.Prelude.{◌≡◌, ◌<◌, ◌∷◌, ◌==◌, IsTrue, length, None, if◌then◌else◌};
+    ghost use Rattle.std.specs.Prelude.{◌≡◌, ◌<◌, ◌∷◌, [], IsTrue, length, None, option_map};
     ghost use Rattle.trace_rule.specs.Settings.{Setting};
     ghost use Rattle.auth_events.specs.Pages.{fits};
     ghost use Rattle.trace_rule.specs.Traces.{suits};
     ghost use Rattle.request_machine.specs.Changed.{holding, put_held};
     ghost use Rattle.request_machine.specs.Gives.{IsReplyTo, IsTold, IsNumberTold, AreTermsNumbered, IsSpaceTold, IsIdentityTold, IsTermsTold};
-    ghost use Rattle.request_machine.specs.Gives.{stage_numbered, stage_with_terms, stage_untold, IsNamedIn, is_given, is_cancelled, is_heard, call_at, IsHeardIn};
+    ghost use Rattle.request_machine.specs.Gives.{past_replied, past_drawn, past_given};
+    ghost use Rattle.request_machine.specs.Linked.{line, way, goes_on, IsLinked};
     ghost use Rattle.request_machine.specs.Kept.{Ties};
+    ghost use Rattle.request_machine.specs.Rooms.{HasSetting};
     ghost use Rattle.request_machine.specs.Needs.{first_left};
 
     /// What is held for the target; then nothing is.
@@ -59,6 +61,9 @@ impl Machine {
     /// The book told the space of what is held.
     fn told_space(&mut self, target: Target, space: Space)
         requires stage { self.old.stage ≡ Stage.Learn target Piece.Space }
+        ensures past { self.new.past ≡ self.old.past }
+        ensures kept { line self.new ≡ line self.old }
+        ensures goes { IsTrue (goes_on (way self.old.stage) (way self.new.stage)) }
         ensures ties { (s : Setting) → IsSpaceTold s self.old target space
             → Ties s self.old → Ties s self.new }
     {
@@ -67,9 +72,21 @@ impl Machine {
         self.stage = Stage::Go;
     }
 
+    /// The book told the space of the prompt that is asked next.
+    #[tactic(auto, using(crate::proofs::Beside::spaced_ties))]
+    fn told_prompt(&mut self, space: Space)
+        ensures same { self.new ≡ record self.old { space = Some space } }
+        ensures ties { (s : Setting) → Ties s self.old → Ties s self.new }
+    {
+        self.space = Some(space);
+    }
+
     /// The book told the identity of what is held.
     fn told_identity(&mut self, target: Target, identity: Identity)
         requires stage { self.old.stage ≡ Stage.Learn target Piece.Identity }
+        ensures past { self.new.past ≡ self.old.past }
+        ensures kept { line self.new ≡ line self.old }
+        ensures goes { IsTrue (goes_on (way self.old.stage) (way self.new.stage)) }
         ensures ties { (s : Setting) → IsIdentityTold s self.old target identity
             → Ties s self.old → Ties s self.new }
     {
@@ -81,6 +98,9 @@ impl Machine {
     /// The book told the terms of what is held.
     fn told_terms(&mut self, target: Target, named: NamedTerms)
         requires stage { self.old.stage ≡ Stage.Learn target Piece.Terms }
+        ensures past { self.new.past ≡ self.old.past }
+        ensures kept { line self.new ≡ line self.old }
+        ensures goes { IsTrue (goes_on (way self.old.stage) (way self.new.stage)) }
         ensures ties { (s : Setting) → IsTermsTold s self.old target named
             → Ties s self.old → Ties s self.new }
     {
@@ -93,8 +113,9 @@ impl Machine {
     fn replied_first(&mut self, call: Call, reply: BookReply)
         requires room { length self.old.past < 256 }
         requires stage { self.old.stage ≡ Stage.Call call }
-        ensures past { IsTrue (is_heard self.old.stage reply)
-            → self.new.past ≡ Event.Called call reply ∷ self.old.past }
+        ensures past { self.new.past ≡ past_replied self.old self.old.stage reply }
+        ensures kept { line self.new ≡ line self.old }
+        ensures goes { IsTrue (goes_on (way self.old.stage) (way self.new.stage)) }
         ensures ties { (s : Setting) → IsTrue (suits s self.old.past call reply)
             → Ties s self.old → Ties s self.new }
     {
@@ -114,8 +135,9 @@ impl Machine {
     fn selected(&mut self, target: Target, space: u32, terms: u32, reply: BookReply)
         requires room { length self.old.past < 256 }
         requires stage { self.old.stage ≡ Stage.Select target space terms }
-        ensures past { IsTrue (fits (Call.Select space terms) reply)
-            → self.new.past ≡ Event.Called (Call.Select space terms) reply ∷ self.old.past }
+        ensures past { self.new.past ≡ past_replied self.old self.old.stage reply }
+        ensures kept { line self.new ≡ line self.old }
+        ensures goes { IsTrue (goes_on (way self.old.stage) (way self.new.stage)) }
         ensures ties { (s : Setting) → IsTrue (suits s self.old.past (Call.Select space terms) reply)
             → Ties s self.old → Ties s self.new }
     {
@@ -135,9 +157,9 @@ impl Machine {
     fn replied_to_answer(&mut self, prompt: Prompt, text: u32, reply: BookReply)
         requires room { length self.old.past < 256 }
         requires stage { self.old.stage ≡ Stage.Answer prompt text }
-        ensures past { IsTrue (is_given reply)
-            → self.new.past
-            ≡ Event.Called (Call.Answer prompt.number text prompt.terms) reply ∷ self.old.past }
+        ensures past { self.new.past ≡ past_replied self.old self.old.stage reply }
+        ensures kept { line self.new ≡ line self.old }
+        ensures goes { IsTrue (goes_on (way self.old.stage) (way self.new.stage)) }
         ensures ties { (s : Setting)
             → IsTrue (suits s self.old.past (Call.Answer prompt.number text prompt.terms) reply)
             → Ties s self.old → Ties s self.new }
@@ -152,9 +174,9 @@ impl Machine {
     fn replied_to_cancel(&mut self, prompt: Prompt, reply: BookReply)
         requires room { length self.old.past < 256 }
         requires stage { self.old.stage ≡ Stage.Cancel prompt }
-        ensures past { IsTrue (is_cancelled reply)
-            → self.new.past
-            ≡ Event.Called (Call.Answer prompt.number 0 prompt.terms) reply ∷ self.old.past }
+        ensures past { self.new.past ≡ past_replied self.old self.old.stage reply }
+        ensures kept { line self.new ≡ line self.old }
+        ensures goes { IsTrue (goes_on (way self.old.stage) (way self.new.stage)) }
         ensures ties { (s : Setting)
             → IsTrue (suits s self.old.past (Call.Answer prompt.number 0 prompt.terms) reply)
             → Ties s self.old → Ties s self.new }
@@ -169,8 +191,9 @@ impl Machine {
     fn replied_to_loss(&mut self, prompt: Prompt, loss: Loss, reply: BookReply)
         requires room { length self.old.past < 256 }
         requires stage { self.old.stage ≡ Stage.Lose prompt loss }
-        ensures past { IsTrue (fits (Call.Lose prompt.number loss) reply)
-            → self.new.past ≡ Event.Called (Call.Lose prompt.number loss) reply ∷ self.old.past }
+        ensures past { self.new.past ≡ past_replied self.old self.old.stage reply }
+        ensures kept { line self.new ≡ line self.old }
+        ensures goes { IsTrue (goes_on (way self.old.stage) (way self.new.stage)) }
         ensures ties { (s : Setting)
             → IsTrue (suits s self.old.past (Call.Lose prompt.number loss) reply)
             → Ties s self.old → Ties s self.new }
@@ -185,8 +208,9 @@ impl Machine {
     fn took(&mut self, prompt: Prompt, reply: BookReply)
         requires room { length self.old.past < 256 }
         requires stage { self.old.stage ≡ Stage.Take prompt }
-        ensures past { IsTrue (fits (Call.Take prompt.number) reply)
-            → self.new.past ≡ Event.Called (Call.Take prompt.number) reply ∷ self.old.past }
+        ensures past { self.new.past ≡ past_replied self.old self.old.stage reply }
+        ensures kept { line self.new ≡ line self.old }
+        ensures goes { IsTrue (goes_on (way self.old.stage) (way self.new.stage)) }
         ensures ties { (s : Setting) → IsTrue (suits s self.old.past (Call.Take prompt.number) reply)
             → Ties s self.old → Ties s self.new }
     {
@@ -202,8 +226,9 @@ impl Machine {
     fn closed(&mut self, closing: Closing, reply: BookReply)
         requires room { length self.old.past < 256 }
         requires stage { self.old.stage ≡ Stage.Close closing }
-        ensures past { self.new.past
-            ≡ Event.Called (first_left closing.proxy closing.server) reply ∷ self.old.past }
+        ensures past { self.new.past ≡ past_replied self.old self.old.stage reply }
+        ensures kept { line self.new ≡ line self.old }
+        ensures goes { IsTrue (goes_on (way self.old.stage) (way self.new.stage)) }
         ensures ties { (s : Setting)
             → IsTrue (suits s self.old.past (first_left closing.proxy closing.server) reply)
             → Ties s self.old → Ties s self.new }
@@ -233,9 +258,12 @@ impl Machine {
     }
 
     /// The book replied where memory had run out.
-    fn replied_spent(&mut self)
+    fn replied_spent(&mut self, reply: BookReply)
         requires room { length self.old.past < 256 }
         requires stage { self.old.stage ≡ Stage.Spent }
+        ensures past { self.new.past ≡ past_replied self.old self.old.stage reply }
+        ensures kept { line self.new ≡ line self.old }
+        ensures goes { IsTrue (goes_on (way self.old.stage) (way self.new.stage)) }
         ensures ties { (s : Setting) → Ties s self.old → Ties s self.new }
     {
         if self.prompt == 0 {
@@ -248,8 +276,9 @@ impl Machine {
     /// The book replied to the call that was asked for.
     fn replied_to(&mut self, reply: BookReply)
         requires room { length self.old.past < 256 }
-        ensures past { IsTrue (is_heard self.old.stage reply)
-            → self.new.past ≡ Event.Called (call_at self.old.stage) reply ∷ self.old.past }
+        ensures past { self.new.past ≡ past_replied self.old self.old.stage reply }
+        ensures kept { line self.new ≡ line self.old }
+        ensures goes { IsTrue (goes_on (way self.old.stage) (way self.new.stage)) }
         ensures ties { (s : Setting) → IsReplyTo s self.old self.old.stage reply
             → Ties s self.old → Ties s self.new }
     {
@@ -266,7 +295,7 @@ impl Machine {
                 self.renewed_last(target, gift, terms, closing, reply);
             }
             Stage::Close(closing) => self.closed(closing, reply),
-            Stage::Spent => self.replied_spent(),
+            Stage::Spent => self.replied_spent(reply),
             Stage::SpentEnd => self.lost_end(),
             _ => (),
         }
@@ -275,6 +304,9 @@ impl Machine {
     /// A count was drawn.
     fn drew(&mut self, drawn: Drawn)
         requires room { length self.old.past < 256 }
+        ensures past { self.new.past ≡ past_drawn self.old self.old.stage drawn }
+        ensures kept { line self.new ≡ line self.old }
+        ensures goes { IsTrue (goes_on (way self.old.stage) (way self.new.stage)) }
         ensures ties { (s : Setting) → Ties s self.old → Ties s self.new }
     {
         match self.stage {
@@ -286,11 +318,14 @@ impl Machine {
 
     /// There was no memory to tell it.
     fn not_told(&mut self)
-        ensures stage { self.new.stage ≡ stage_untold self.old.stage }
+        ensures past { self.new.past ≡ self.old.past }
+        ensures kept { line self.new ≡ line self.old }
+        ensures goes { IsTrue (goes_on (way self.old.stage) (way self.new.stage)) }
         ensures ties { (s : Setting) → Ties s self.old → Ties s self.new }
     {
         match self.stage {
             Stage::Learn(_, _) => self.spend(),
+            Stage::Ask(_, _) => self.spend(),
             Stage::NameSpace(_) => self.spend(),
             Stage::NameTerms(_, _) => self.spend(),
             Stage::NameText(_) => self.spend(),
@@ -300,16 +335,14 @@ impl Machine {
         }
     }
 
-    /// The terms that were to be named have a number, which is never 0.
+    /// The terms that were to be named have a number.
     fn terms_numbered(&mut self, terms: u32)
-        ensures stage { self.new.stage
-            ≡ (if terms == 0 then self.old.stage else stage_with_terms self.old.stage terms) }
+        ensures past { self.new.past ≡ self.old.past }
+        ensures kept { line self.new ≡ line self.old }
+        ensures goes { IsTrue (goes_on (way self.old.stage) (way self.new.stage)) }
         ensures ties { (s : Setting) → AreTermsNumbered s self.old self.old.stage terms
             → Ties s self.old → Ties s self.new }
     {
-        if terms == 0 {
-            return;
-        }
         match self.stage {
             Stage::NameTerms(target, space) => self.terms_named(target, space, terms),
             Stage::NameRenewal(target, gift) => self.renewal_named(target, gift, terms),
@@ -322,8 +355,9 @@ impl Machine {
 
     /// The space or the text that was to be named has a number, which is never 0.
     fn numbered(&mut self, number: u32)
-        ensures stage { self.new.stage
-            ≡ (if number == 0 then self.old.stage else stage_numbered self.old self.old.stage number) }
+        ensures past { self.new.past ≡ self.old.past }
+        ensures kept { line self.new ≡ line self.old }
+        ensures goes { IsTrue (goes_on (way self.old.stage) (way self.new.stage)) }
         ensures ties { (s : Setting) → IsNumberTold s self.old self.old.stage number
             → Ties s self.old → Ties s self.new }
     {
@@ -339,10 +373,15 @@ impl Machine {
 
     /// Goes on with what the caller tells of the last need. What answers no need of the stage changes
     /// nothing.
+    #[tactic(auto, using(crate::proofs::Rooms::tied_room))]
     pub fn gave(&mut self, gave: Gave)
-        requires room { length self.old.past < 256 }
-        ensures past { IsHeardIn self.old.stage gave self.old.past self.new.past }
-        ensures named { IsNamedIn self.old gave self.new.stage }
+        requires tied { HasSetting self.old }
+        ensures past { self.new.past ≡ past_given self.old gave }
+        ensures number { self.new.number ≡ self.old.number }
+        ensures seed { self.new.seed ≡ self.old.seed }
+        ensures link { self.new.link ≡ self.old.link }
+        ensures links { self.new.links ≡ self.old.links }
+        ensures linked { IsLinked self.old → IsLinked self.new }
         ensures ties { (s : Setting) → IsTold s self.old self.old.stage gave
             → Ties s self.old → Ties s self.new }
     {
@@ -362,6 +401,7 @@ impl Machine {
             },
             Gave::Space(space) => match self.stage {
                 Stage::Learn(target, Piece::Space) => self.told_space(target, space),
+                Stage::Ask(_, _) => self.told_prompt(space),
                 _ => (),
             },
             Gave::Drawn(drawn) => self.drew(drawn),

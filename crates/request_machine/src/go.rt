@@ -18,14 +18,16 @@ use spaces::{Origin, Request, Target};
 use std::alloc::Global;
 
 impl Machine {
-    ghost use Rattle.std.specs.Prelude.{◌≡◌, ◌<◌, ◌∷◌, IfSome, Some, None, length, false, true, ◌+◌, List, Option};
+    ghost use Rattle.std.specs.Prelude.{◌≡◌, ◌<◌, ◌∷◌, IfSome, Some, None, length, false, true, ◌+◌, List, Option, IsTrue, is_some};
     ghost use Rattle.trace_rule.specs.Settings.{Setting};
     ghost use Rattle.trace_rule.specs.Telling.{dials};
     ghost use Rattle.link_trait.specs.Told.{grown};
-    ghost use Rattle.link_trait.specs.Links.{has_link, IsUndialed};
     ghost use Rattle.link_trait.specs.declared.dialer.Dial.{Dial};
-    ghost use Rattle.request_machine.specs.Kept.{Ties, IsLinkAsDialed};
-    ghost use Rattle.request_machine.specs.Turns.{next_link};
+    ghost use Rattle.request_machine.specs.Linked.{line, way, goes_on, IsLinked, IsOnlyLink, AreDialsOf, IsDriven};
+    ghost use Rattle.request_machine.specs.Driven.{insides};
+    ghost use Rattle.request_machine.specs.Kept.{Ties};
+    ghost use Rattle.request_machine.specs.Changed.{holding};
+    ghost use Rattle.request_machine.specs.Turns.{is_asking, turns_left};
 
     /// The next link was dialed.
     #[tactic(auto, using(crate::proofs::Sending::dialed_ties))]
@@ -37,7 +39,9 @@ impl Machine {
         requires proxy { IfSome self.old.proxy IsReady }
         requires server { IfSome self.old.server IsReady }
         ensures past { self.new.past ≡ Event.Dialed (self.old.links + 1) ∷ self.old.past }
-        ensures link { self.new.link ≡ self.old.link }
+        ensures stage { self.new.stage ≡ Stage.Go }
+        ensures line { line self.new
+            ≡ record (line self.old) { links = self.old.links + 1; is_dialed = true } }
         ensures ties { (s : Setting) → Ties s self.old → Ties s self.new }
     {
         let link = self.links + 1;
@@ -57,7 +61,9 @@ impl Machine {
         requires server { IfSome self.old.server IsReady }
         ensures past { self.new.past
             ≡ Event.DialFailed (self.old.links + 1) count ∷ self.old.past }
-        ensures link { self.new.link ≡ self.old.link }
+        ensures asks { is_asking self.new ≡ true }
+        ensures kept { line self.new ≡ line self.old }
+        ensures goes { IsTrue (goes_on (way self.old.stage) (way self.new.stage)) }
         ensures ties { (s : Setting) → Ties s self.old → Ties s self.new }
     {
         let link = self.links + 1;
@@ -66,6 +72,7 @@ impl Machine {
     }
 
     /// Dials the next link.
+    #[tactic(auto, using(crate::proofs::Driving::free_link, crate::proofs::Driving::next_closed, crate::proofs::Driving::next_fresh))]
     pub(crate) fn dial<D: Dialer>(&mut self, request: &Request, dialer: &mut D)
         requires room { length self.old.past < 256 }
         requires few { self.old.links < 256 }
@@ -73,14 +80,17 @@ impl Machine {
         requires undialed { self.old.is_dialed ≡ false }
         requires proxy { IfSome self.old.proxy IsReady }
         requires server { IfSome self.old.server IsReady }
-        requires link { self.old.link ≡ None }
-        requires closed { has_link (next_link self.old) (D.opened dialer.old) ≡ false }
-        requires fresh { IsUndialed (next_link self.old) (D.dials dialer.old) }
+        requires linked { IsLinked self.old }
+        requires links { IsOnlyLink (line self.old) (D.opened dialer.old) }
+        requires told { AreDialsOf (line self.old) (D.dials dialer.old) }
         ensures ties { (s : Setting) → Ties s self.old → Ties s self.new }
         ensures dials { (s : Setting) (before : Option (List Dial)) → s.request ≡ request.now
             → Ties s self.old → D.dials dialer.old ≡ grown before (dials s self.old.past)
             → D.dials dialer.new ≡ grown before (dials s self.new.past) }
-        ensures traffic { D.traffic dialer.new ≡ D.traffic dialer.old }
+        ensures driven { IsDriven self.old self.new
+            (D.opened dialer.old) (D.opened dialer.new) (D.dials dialer.new) }
+        ensures nearer { turns_left self.new < turns_left self.old }
+        ensures insides { insides self.new.past ≡ insides self.old.past }
     {
         let name = LinkName {
             request: self.number,
@@ -105,7 +115,9 @@ impl Machine {
         requires server { IfSome self.old.server IsReady }
         requires next { nonce_next self.old.drawn_proxy self.old.proxy ≡ Some nonce }
         ensures past { self.new.past ≡ self.old.past }
-        ensures stage { self.new.stage ≡ Stage.Draw Target.Proxy nonce }
+        ensures asks { is_asking self.new ≡ true }
+        ensures kept { line self.new ≡ line self.old }
+        ensures goes { IsTrue (goes_on (way self.old.stage) (way self.new.stage)) }
         ensures ties { (s : Setting) → Ties s self.old → Ties s self.new }
     {
         self.stage = Stage::Draw(Target::Proxy, nonce);
@@ -121,7 +133,9 @@ impl Machine {
         requires none { nonce_next self.old.drawn_proxy self.old.proxy ≡ None }
         requires next { nonce_next self.old.drawn_server self.old.server ≡ Some nonce }
         ensures past { self.new.past ≡ self.old.past }
-        ensures stage { self.new.stage ≡ Stage.Draw Target.Server nonce }
+        ensures asks { is_asking self.new ≡ true }
+        ensures kept { line self.new ≡ line self.old }
+        ensures goes { IsTrue (goes_on (way self.old.stage) (way self.new.stage)) }
         ensures ties { (s : Setting) → Ties s self.old → Ties s self.new }
     {
         self.stage = Stage::Draw(Target::Server, nonce);
@@ -133,6 +147,8 @@ impl Machine {
         requires stage { self.old.stage ≡ Stage.Draw Target.Proxy nonce }
         ensures past { self.new.past
             ≡ Event.Drew Target.Proxy nonce drawn.count drawn.epoch ∷ self.old.past }
+        ensures kept { line self.new ≡ line self.old }
+        ensures goes { IsTrue (goes_on (way self.old.stage) (way self.new.stage)) }
         ensures ties { (s : Setting) → Ties s self.old → Ties s self.new }
     {
         self.push(Event::Drew {
@@ -153,6 +169,8 @@ impl Machine {
         requires stage { self.old.stage ≡ Stage.Draw Target.Server nonce }
         ensures past { self.new.past
             ≡ Event.Drew Target.Server nonce drawn.count drawn.epoch ∷ self.old.past }
+        ensures kept { line self.new ≡ line self.old }
+        ensures goes { IsTrue (goes_on (way self.old.stage) (way self.new.stage)) }
         ensures ties { (s : Setting) → Ties s self.old → Ties s self.new }
     {
         self.push(Event::Drew {
@@ -168,11 +186,14 @@ impl Machine {
     }
 
     /// The book is to tell more of what is held.
-    #[tactic(auto, using(crate::proofs::Choosing::learn_ties))]
+    #[tactic(auto, using(crate::proofs::Choosing::learn_ties, crate::proofs::Driving::learns))]
     pub(crate) fn learn(&mut self, target: Target, piece: Piece)
         requires stage { self.old.stage ≡ Stage.Go }
+        requires held { is_some (holding self.old target) ≡ true }
         ensures past { self.new.past ≡ self.old.past }
-        ensures link { self.new.link ≡ self.old.link }
+        ensures asks { is_asking self.new ≡ true }
+        ensures kept { line self.new ≡ line self.old }
+        ensures goes { IsTrue (goes_on (way self.old.stage) (way self.new.stage)) }
         ensures ties { (s : Setting) → Ties s self.old → Ties s self.new }
     {
         self.stage = Stage::Learn(target, piece);
@@ -182,8 +203,11 @@ impl Machine {
     /// Negotiate identity.
     pub(crate) fn lack(&mut self, target: Target, piece: Option<Piece>)
         requires stage { self.old.stage ≡ Stage.Go }
+        requires held { is_some (holding self.old target) ≡ true }
         ensures past { self.new.past ≡ self.old.past }
-        ensures link { self.new.link ≡ self.old.link }
+        ensures asks { is_asking self.new ≡ true }
+        ensures kept { line self.new ≡ line self.old }
+        ensures goes { IsTrue (goes_on (way self.old.stage) (way self.new.stage)) }
         ensures ties { (s : Setting) → Ties s self.old → Ties s self.new }
     {
         match piece {
@@ -198,14 +222,18 @@ impl Machine {
         requires few_links { self.old.links < 256 }
         requires few_heads { self.old.heads < 256 }
         requires stage { self.old.stage ≡ Stage.Go }
-        requires link { IsLinkAsDialed self.old.is_dialed self.old.link (D.opened dialer.old) }
-        requires closed { has_link (next_link self.old) (D.opened dialer.old) ≡ false }
-        requires fresh { IsUndialed (next_link self.old) (D.dials dialer.old) }
+        requires linked { IsLinked self.old }
+        requires links { IsOnlyLink (line self.old) (D.opened dialer.old) }
+        requires told { AreDialsOf (line self.old) (D.dials dialer.old) }
         ensures ties { (s : Setting) → s.request ≡ request.now → Ties s self.old
             → Ties s self.new }
         ensures dials { (s : Setting) (before : Option (List Dial)) → s.request ≡ request.now
             → Ties s self.old → D.dials dialer.old ≡ grown before (dials s self.old.past)
             → D.dials dialer.new ≡ grown before (dials s self.new.past) }
+        ensures driven { IsDriven self.old self.new
+            (D.opened dialer.old) (D.opened dialer.new) (D.dials dialer.new) }
+        ensures nearer { turns_left self.new < turns_left self.old }
+        ensures insides { insides self.new.past ≡ insides self.old.past }
     {
         if let Err(piece) = readiness(&self.proxy) {
             self.lack(Target::Proxy, piece);

@@ -1,6 +1,6 @@
 //! What a machine knows of what it holds, by what the book has told.
 
-ghost use Rattle.std.specs.Prelude.{◌≡◌, option_and_then, None, IfSome, OnOk, option_map};
+ghost use Rattle.std.specs.Prelude.{◌≡◌, option_and_then, None, IfSome, OnOk, OnErr, option_map, is_some, true};
 ghost use Rattle.request_machine.specs.Heads.{kept_drew, nonce_next};
 ghost use Rattle.request_machine.specs.Told.{gift_told, bare, IsReady, nonce_told, with_space, with_identity, with_named};
 
@@ -60,7 +60,8 @@ pub(crate) fn bare(gift: Gift, terms: u32) -> Holding
 /// Whether all is told of what is held; else what is lacking, or nothing where it is a Negotiate
 /// identity.
 pub(crate) fn readiness(held: &Option<Holding>) -> Result<(), Option<Piece>>
-    ensures { OnOk result (IfSome held.now IsReady) }
+    ensures ready { OnOk result (IfSome held.now IsReady) }
+    ensures lack { OnErr result (is_some held.now ≡ true) }
 {
     match held {
         None => Ok(()),

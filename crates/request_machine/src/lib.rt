@@ -6,8 +6,8 @@
 //! both targets, dials, draws and heads, replies over free links, which challenge is answered and which
 //! decides on what is held, the names of spaces, terms and texts, the book's choice, prompts that are
 //! led or followed, rejections, renewals behind a stale challenge and by a next nonce, the calls at the
-//! end, and want of memory. Negotiate challenges are passed over so far. Still to come is the one call
-//! that drives the whole.
+//! end, and want of memory. One call, `step`, drives the whole from one need to the next. Negotiate
+//! challenges are passed over so far.
 #![tactic(auto)]
 
 mod ask;
@@ -19,6 +19,7 @@ mod cut;
 mod decide;
 mod fields;
 mod gave;
+mod gear;
 mod go;
 mod holding;
 mod known;
@@ -31,9 +32,11 @@ mod read;
 mod renew;
 mod send;
 mod stage;
+mod step;
 mod turn;
 
 pub use gave::Gave;
+pub use gear::Gear;
 pub use holding::{Context, Holding, NamedTerms};
 pub use machine::Machine;
 pub use need::Need;

@@ -37,6 +37,7 @@ pub struct Machine {
     pub(crate) given: Option<Identity>,
     pub(crate) unnamed_space: Option<Space>,
     pub(crate) unnamed_terms: Option<Terms>,
+    pub(crate) space: Option<Space>,
     pub(crate) link: Option<FreeLink>,
 }
 
@@ -69,6 +70,7 @@ impl Model for Machine {
       given = m.given;
       unnamed_space = m.unnamed_space;
       unnamed_terms = m.unnamed_terms;
+      space = m.space;
       link = m.link;
     } };
 
@@ -76,11 +78,12 @@ impl Model for Machine {
 }
 
 impl Machine {
-    ghost use Rattle.std.specs.Prelude.{◌≡◌, IsSome, ◌<◌, ◌∷◌, IfOk, Some, None, length};
+    ghost use Rattle.std.specs.Prelude.{◌≡◌, IsSome, ◌<◌, ◌∷◌, [], IfOk, Some, None, length};
     ghost use Rattle.spaces.specs.Sites.{numbered};
     ghost use Rattle.trace_rule.specs.Settings.{Setting};
     ghost use Rattle.request_machine.specs.Kept.{Ties, IsOf, IsSettingOf};
     ghost use Rattle.request_machine.specs.Changed.{put_held};
+    ghost use Rattle.request_machine.specs.Linked.{line, first_line};
 
     /// The machine of a request that hasn't begun, with room for 256 events. The client nonces of its
     /// Digest credentials are made of the seed.
@@ -92,6 +95,8 @@ impl Machine {
     ) -> Result<Machine, NoMemory>
         requires { IsSome (numbered roster.now.requests request) }
         ensures stage { IfOk result (λ machine. machine.stage ≡ Stage.Call Call.Begin) }
+        ensures past { IfOk result (λ machine. machine.past ≡ []) }
+        ensures line { IfOk result (λ machine. line machine ≡ first_line request seed) }
         ensures ties { IfOk result (λ machine. (s : Setting)
             → IsSettingOf s roster.now request seed → Ties s machine) }
     {
@@ -109,6 +114,8 @@ impl Machine {
         seed: [u8; 32],
     ) -> Result<Machine, NoMemory>
         ensures stage { IfOk result (λ machine. machine.stage ≡ Stage.Call Call.Begin) }
+        ensures past { IfOk result (λ machine. machine.past ≡ []) }
+        ensures line { IfOk result (λ machine. line machine ≡ first_line number seed) }
         ensures ties { IfOk result (λ machine. (s : Setting) → IsOf s request.now number seed
             → Ties s machine) }
     {
@@ -136,6 +143,7 @@ impl Machine {
             given: None,
             unnamed_space: None,
             unnamed_terms: None,
+            space: None,
             link: None,
         })
     }

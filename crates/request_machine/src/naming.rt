@@ -7,17 +7,19 @@ use crate::stage::Stage;
 use spaces::Target;
 
 impl Machine {
-    ghost use Rattle.std.specs.Prelude.{◌≡◌, is_some, if◌then◌else◌};
+    ghost use Rattle.std.specs.Prelude.{◌≡◌, IsTrue};
     ghost use Rattle.trace_rule.specs.Settings.{Setting};
     ghost use Rattle.request_machine.specs.Gives.{IsSpaceNamed, AreTermsNamed};
+    ghost use Rattle.request_machine.specs.Linked.{line, way, goes_on};
     ghost use Rattle.request_machine.specs.Kept.{Ties};
 
     /// The space has a number. Only the terms of a Digest challenge are named.
     #[tactic(auto, using(crate::proofs::Numbers::space_named_ties, crate::proofs::Numbers::space_with_terms_ties))]
     pub(crate) fn space_named(&mut self, target: Target, space: u32)
         requires stage { self.old.stage ≡ Stage.NameSpace target }
-        ensures stage { self.new.stage ≡ (if is_some self.old.unnamed_terms
-            then Stage.NameTerms target space else Stage.Select target space 0) }
+        ensures past { self.new.past ≡ self.old.past }
+        ensures kept { line self.new ≡ line self.old }
+        ensures goes { IsTrue (goes_on (way self.old.stage) (way self.new.stage)) }
         ensures ties { (s : Setting) → IsSpaceNamed s self.old space → Ties s self.old
             → Ties s self.new }
     {
@@ -32,7 +34,9 @@ impl Machine {
     #[tactic(auto, using(crate::proofs::Numbers::terms_named_ties))]
     pub(crate) fn terms_named(&mut self, target: Target, space: u32, terms: u32)
         requires stage { self.old.stage ≡ Stage.NameTerms target space }
-        ensures stage { self.new.stage ≡ Stage.Select target space terms }
+        ensures past { self.new.past ≡ self.old.past }
+        ensures kept { line self.new ≡ line self.old }
+        ensures goes { IsTrue (goes_on (way self.old.stage) (way self.new.stage)) }
         ensures ties { (s : Setting) → AreTermsNamed s self.old space terms → Ties s self.old
             → Ties s self.new }
     {

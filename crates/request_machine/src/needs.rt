@@ -14,9 +14,10 @@ use auth_text::{Identity, NoMemory};
 use spaces::{Space, Target, Terms, copy_identity, copy_space, copy_terms};
 
 impl Machine {
-    ghost use Rattle.std.specs.Prelude.{◌≡◌, IfOk, OnErr, true, false};
+    ghost use Rattle.std.specs.Prelude.{◌≡◌, IfOk, IsTrue, None, OnErr, true, false};
     ghost use Rattle.trace_rule.specs.Settings.{Setting};
     ghost use Rattle.request_machine.specs.Kept.{Ties, is_regular, can_stop};
+    ghost use Rattle.request_machine.specs.Linked.{line, way, goes_on};
     ghost use Rattle.request_machine.specs.Needs.{need_at, is_naming, IsWantedAt};
 
     /// What is asked for where no name is.
@@ -44,6 +45,13 @@ impl Machine {
             Stage::Learn(Target::Proxy, piece) => need_of(piece, &self.proxy),
             Stage::Learn(Target::Server, piece) => need_of(piece, &self.server),
             Stage::Draw(_, nonce) => Some(Need::Draw(nonce)),
+            Stage::Ask(prompt, _) => {
+                if self.space.is_some() {
+                    None
+                } else {
+                    Some(Need::SpaceOf(prompt.space))
+                }
+            }
             Stage::Close(closing) => Some(Need::Book(first_left(closing))),
             Stage::Spent => Some(Need::Book(spent_call(self.prompt))),
             Stage::SpentEnd => Some(Need::Book(Call::End)),
@@ -73,7 +81,9 @@ impl Machine {
     pub(crate) fn need(&mut self) -> Option<Need>
         ensures need { result ≡ need_at self.new self.new.stage }
         ensures past { self.new.past ≡ self.old.past }
-        ensures link { self.new.link ≡ self.old.link }
+        ensures still { result ≡ None → self.new ≡ self.old }
+        ensures kept { line self.new ≡ line self.old }
+        ensures goes { IsTrue (goes_on (way self.old.stage) (way self.new.stage)) }
         ensures ties { (s : Setting) → Ties s self.old → Ties s self.new }
         ensures wanted { (s : Setting) → Ties s self.old → IsWantedAt s self.new self.new.stage }
     {

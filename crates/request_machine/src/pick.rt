@@ -26,11 +26,13 @@ pub(crate) struct Pick {
 }
 
 impl Machine {
-    ghost use Rattle.std.specs.Prelude.{◌≡◌, IsSome, Some, None, IfOk};
+    ghost use Rattle.std.specs.Prelude.{◌≡◌, IsSome, IsTrue, Some, None, IfOk, true};
     ghost use Rattle.spaces.specs.Sites.{site};
     ghost use Rattle.trace_rule.specs.Settings.{Setting};
     ghost use Rattle.trace_rule.specs.Holding.{last_reply};
     ghost use Rattle.request_machine.specs.Chosen.{IsPick};
+    ghost use Rattle.request_machine.specs.Turns.{is_asking};
+    ghost use Rattle.request_machine.specs.Linked.{line, way, goes_on};
     ghost use Rattle.request_machine.specs.Kept.{Ties, IsTied};
 
     /// The last reply.
@@ -66,6 +68,9 @@ impl Machine {
     fn picked(&mut self, target: Target, pick: Pick)
         requires stage { self.old.stage ≡ Stage.Choose target }
         ensures past { self.new.past ≡ self.old.past }
+        ensures asks { is_asking self.new ≡ true }
+        ensures kept { line self.new ≡ line self.old }
+        ensures goes { IsTrue (goes_on (way self.old.stage) (way self.new.stage)) }
         ensures ties { (s : Setting) → IsPick self.old.past s.request target (Some pick)
             → Ties s self.old → Ties s self.new }
     {
@@ -80,6 +85,9 @@ impl Machine {
         requires stage { self.old.stage ≡ Stage.Choose target }
         requires tied { IsTied self.old request.now }
         ensures past { self.new.past ≡ self.old.past }
+        ensures asks { is_asking self.new ≡ true }
+        ensures kept { line self.new ≡ line self.old }
+        ensures goes { IsTrue (goes_on (way self.old.stage) (way self.new.stage)) }
         ensures ties { (s : Setting) → s.request ≡ request.now → Ties s self.old
             → Ties s self.new }
     {

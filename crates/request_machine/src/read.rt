@@ -24,10 +24,12 @@ impl Machine {
     ghost use Rattle.trace_rule.specs.Challenges.{challenged};
     ghost use Rattle.trace_rule.specs.Telling.{dials};
     ghost use Rattle.link_trait.specs.Told.{grown};
-    ghost use Rattle.link_trait.specs.Links.{without_link};
     ghost use Rattle.request_machine.specs.Reads.{IsFitRead};
     ghost use Rattle.link_trait.specs.declared.dialer.Dial.{Dial};
+    ghost use Rattle.request_machine.specs.Driven.{insides};
     ghost use Rattle.request_machine.specs.Kept.{Ties, IsTied, IsLinkOpen};
+    ghost use Rattle.request_machine.specs.Turns.{opened_without, turns_left};
+    ghost use Rattle.request_machine.specs.Linked.{line, way, is_away, IsLinked, IsOnlyLink, AreDialsOf, IsDriven};
 
     /// Reads over the open link.
     pub(crate) fn read_link<D: Dialer>(
@@ -53,8 +55,7 @@ impl Machine {
         requires { IsLinkOpen self.old.link (D.opened dialer.old) }
         ensures same { self.new ≡ record self.old { link = None } }
         ensures dials { D.dials dialer.new ≡ D.dials dialer.old }
-        ensures opened { IfSome self.old.link (λ link. D.opened dialer.new
-            ≡ without_link link (D.opened dialer.old)) }
+        ensures opened { D.opened dialer.new ≡ opened_without self.old.link (D.opened dialer.old) }
     {
         match self.link.take() {
             Some(link) => link.spend(dialer),
@@ -63,7 +64,7 @@ impl Machine {
     }
 
     /// Reads the reply and closes the link.
-    #[tactic(auto, using(crate::proofs::Reading::linked_ties, crate::proofs::Reading::linked_tied))]
+    #[tactic(auto, using(crate::proofs::Beside::linked_ties, crate::proofs::Reading::linked_tied, crate::proofs::Driving::reading_open))]
     pub(crate) fn read<D: Dialer>(
         &mut self,
         alloc: Global,
@@ -74,13 +75,19 @@ impl Machine {
         requires room { length self.old.past < 250 }
         requires few_rounds { self.old.rounds < 256 }
         requires stage { self.old.stage ≡ Stage.Read link }
+        requires linked { IsLinked self.old }
+        requires links { IsOnlyLink (line self.old) (D.opened dialer.old) }
+        requires told { AreDialsOf (line self.old) (D.dials dialer.old) }
         requires tied { IsTied self.old request.now }
-        requires open { IsLinkOpen self.old.link (D.opened dialer.old) }
         ensures ties { (s : Setting) → s.request ≡ request.now → Ties s self.old
             → Ties s self.new }
         ensures dials { (s : Setting) (before : Option (List Dial))
             → D.dials dialer.old ≡ grown before (dials s self.old.past)
             → D.dials dialer.new ≡ grown before (dials s self.new.past) }
+        ensures driven { IsDriven self.old self.new
+            (D.opened dialer.old) (D.opened dialer.new) (D.dials dialer.new) }
+        ensures nearer { turns_left self.new < turns_left self.old }
+        ensures insides { insides self.new.past ≡ insides self.old.past }
     {
         let end = self.read_link(alloc, dialer, request.method);
         self.close_link(dialer);
@@ -99,6 +106,9 @@ impl Machine {
         requires room { length self.old.past < 256 }
         requires stage { self.old.stage ≡ Stage.Read link }
         ensures past { self.new.past ≡ Event.ReadFailed link count ∷ self.old.past }
+        ensures kept { line self.new ≡ line self.old }
+        ensures away { IsTrue (is_away (way self.new.stage)) }
+        ensures left { turns_left self.new < 3 }
         ensures ties { (s : Setting) → Ties s self.old → Ties s self.new }
     {
         self.push(Event::ReadFailed { link, count });
@@ -111,6 +121,9 @@ impl Machine {
         requires room { length self.old.past < 256 }
         requires stage { self.old.stage ≡ Stage.Read link }
         ensures past { self.new.past ≡ Event.Broken link fault ∷ self.old.past }
+        ensures kept { line self.new ≡ line self.old }
+        ensures away { IsTrue (is_away (way self.new.stage)) }
+        ensures left { turns_left self.new < 3 }
         ensures ties { (s : Setting) → Ties s self.old → Ties s self.new }
     {
         self.push(Event::Broken { link, fault });
@@ -124,6 +137,9 @@ impl Machine {
         requires stage { self.old.stage ≡ Stage.Read link }
         requires reply { IsTrue (can_be reply) }
         ensures past { self.new.past ≡ Event.Replied link reply ∷ self.old.past }
+        ensures kept { line self.new ≡ line self.old }
+        ensures away { IsTrue (is_away (way self.new.stage)) }
+        ensures left { turns_left self.new < 3 }
         ensures ties { (s : Setting) → challenged s reply ≡ None → Ties s self.old
             → Ties s self.new }
     {
@@ -149,6 +165,10 @@ impl Machine {
         ensures ties { (s : Setting) → s.request ≡ request.now → Ties s self.old
             → Ties s self.new }
         ensures dials { (s : Setting) → dials s self.new.past ≡ dials s self.old.past }
+        ensures insides { insides self.new.past ≡ insides self.old.past }
+        ensures kept { line self.new ≡ line self.old }
+        ensures away { IsTrue (is_away (way self.new.stage)) }
+        ensures left { turns_left self.new < 3 }
     {
         match challenged_told(self.is_proxied, reply.code) {
             None => self.answered(link, reply),

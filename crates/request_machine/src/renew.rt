@@ -26,19 +26,23 @@ pub(crate) struct Renewal {
 }
 
 impl Machine {
-    ghost use Rattle.std.specs.Prelude.{◌≡◌, ◌<◌, ◌∷◌, IsTrue, IsSome, IfOk, Some, None, length};
+    ghost use Rattle.std.specs.Prelude.{◌≡◌, ◌<◌, ◌∷◌, IsTrue, IsSome, IfOk, Some, None, length, true};
     ghost use Rattle.trace_rule.specs.Holding.{last_reply};
     ghost use Rattle.request_machine.specs.Renewals.{renewal_at};
     ghost use Rattle.trace_rule.specs.Settings.{Setting};
     ghost use Rattle.trace_rule.specs.Traces.{suits};
     ghost use Rattle.request_machine.specs.Gives.{AreTermsNamed};
+    ghost use Rattle.request_machine.specs.Turns.{is_asking, turns_left};
+    ghost use Rattle.request_machine.specs.Linked.{line, way, goes_on};
     ghost use Rattle.request_machine.specs.Kept.{Ties};
 
     /// The terms of the stale challenge have a number.
     #[tactic(auto, using(crate::proofs::Renewing::renewal_named_ties))]
     pub(crate) fn renewal_named(&mut self, target: Target, gift: Gift, terms: u32)
         requires stage { self.old.stage ≡ Stage.NameRenewal target gift }
-        ensures stage { self.new.stage ≡ Stage.Renew target gift terms }
+        ensures past { self.new.past ≡ self.old.past }
+        ensures kept { line self.new ≡ line self.old }
+        ensures goes { IsTrue (goes_on (way self.old.stage) (way self.new.stage)) }
         ensures ties { (s : Setting) → AreTermsNamed s self.old gift.space terms
             → Ties s self.old → Ties s self.new }
     {
@@ -50,6 +54,8 @@ impl Machine {
         requires room { length self.old.past < 256 }
         requires stage { self.old.stage ≡ Stage.Renew target gift terms }
         ensures past { self.new.past ≡ Event.Called (Call.Renew gift terms) reply ∷ self.old.past }
+        ensures kept { line self.new ≡ line self.old }
+        ensures goes { IsTrue (goes_on (way self.old.stage) (way self.new.stage)) }
         ensures ties { (s : Setting) → IsTrue (suits s self.old.past (Call.Renew gift terms) reply)
             → Ties s self.old → Ties s self.new }
     {
@@ -76,10 +82,14 @@ impl Machine {
     }
 
     /// Nothing is renewed for the target.
+    #[tactic(auto, using(crate::proofs::Driving::behind_ends, crate::proofs::Driving::behind_nearer))]
     fn not_renewed(&mut self, target: Target, closing: Closing)
         requires stage { self.old.stage ≡ Stage.NextNonce target closing }
         requires none { renewal_at self.old target ≡ None }
         ensures past { self.new.past ≡ self.old.past }
+        ensures nearer { turns_left self.new < turns_left self.old }
+        ensures kept { line self.new ≡ line self.old }
+        ensures goes { IsTrue (goes_on (way self.old.stage) (way self.new.stage)) }
         ensures ties { (s : Setting) → Ties s self.old → Ties s self.new }
     {
         self.stage = stage_behind(target, closing);
@@ -90,6 +100,9 @@ impl Machine {
         requires stage { self.old.stage ≡ Stage.NextNonce target closing }
         requires some { renewal_at self.old target ≡ Some renewal }
         ensures past { self.new.past ≡ self.old.past }
+        ensures asks { is_asking self.new ≡ true }
+        ensures kept { line self.new ≡ line self.old }
+        ensures goes { IsTrue (goes_on (way self.old.stage) (way self.new.stage)) }
         ensures ties { (s : Setting) → Ties s self.old → Ties s self.new }
     {
         self.put_terms(Some(renewal.terms));
@@ -97,10 +110,14 @@ impl Machine {
     }
 
     /// Looks for the nonce that the last reply gave the target for the next request.
+    #[tactic(auto, using(crate::proofs::Driving::next_nearer))]
     pub(crate) fn renew_next(&mut self, alloc: Global, target: Target, closing: Closing)
         requires stage { self.old.stage ≡ Stage.NextNonce target closing }
         requires reply { IsSome (last_reply self.old.past) }
         ensures past { self.new.past ≡ self.old.past }
+        ensures nearer { turns_left self.new < turns_left self.old }
+        ensures kept { line self.new ≡ line self.old }
+        ensures goes { IsTrue (goes_on (way self.old.stage) (way self.new.stage)) }
         ensures ties { (s : Setting) → Ties s self.old → Ties s self.new }
     {
         match self.renewal(alloc, target) {
@@ -114,7 +131,9 @@ impl Machine {
     #[tactic(auto, using(crate::proofs::Renewing::last_named_ties))]
     pub(crate) fn last_named(&mut self, target: Target, gift: Gift, closing: Closing, terms: u32)
         requires stage { self.old.stage ≡ Stage.NameLast target gift closing }
-        ensures stage { self.new.stage ≡ Stage.RenewLast target gift terms closing }
+        ensures past { self.new.past ≡ self.old.past }
+        ensures kept { line self.new ≡ line self.old }
+        ensures goes { IsTrue (goes_on (way self.old.stage) (way self.new.stage)) }
         ensures ties { (s : Setting) → AreTermsNamed s self.old gift.space terms
             → Ties s self.old → Ties s self.new }
     {
@@ -122,6 +141,7 @@ impl Machine {
     }
 
     /// The gift was given the terms with the next nonce.
+    #[tactic(auto, using(crate::proofs::Driving::behind_ends))]
     pub(crate) fn renewed_last(
         &mut self,
         target: Target,
@@ -133,6 +153,8 @@ impl Machine {
         requires room { length self.old.past < 256 }
         requires stage { self.old.stage ≡ Stage.RenewLast target gift terms closing }
         ensures past { self.new.past ≡ Event.Called (Call.Renew gift terms) reply ∷ self.old.past }
+        ensures kept { line self.new ≡ line self.old }
+        ensures goes { IsTrue (goes_on (way self.old.stage) (way self.new.stage)) }
         ensures ties { (s : Setting) → IsTrue (suits s self.old.past (Call.Renew gift terms) reply)
             → Ties s self.old → Ties s self.new }
     {

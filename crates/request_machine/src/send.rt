@@ -17,13 +17,16 @@ use spaces::{Request, Target};
 use std::alloc::Global;
 
 impl Machine {
-    ghost use Rattle.std.specs.Prelude.{◌≡◌, ◌<◌, ◌∷◌, IfOk, IfSome, None, length, true, List, Option};
+    ghost use Rattle.std.specs.Prelude.{◌≡◌, ◌<◌, ◌∷◌, IfOk, IfSome, None, length, true, false, IsTrue, List, Option};
     ghost use Rattle.trace_rule.specs.Settings.{Setting};
     ghost use Rattle.trace_rule.specs.Telling.{dials};
     ghost use Rattle.link_trait.specs.Told.{grown};
     ghost use Rattle.link_trait.specs.declared.dialer.Dial.{Dial};
     ghost use Rattle.request_machine.specs.Kept.{Ties, IsLinkOpen};
+    ghost use Rattle.request_machine.specs.Driven.{insides};
     ghost use Rattle.request_machine.specs.Heads.{head_told};
+    ghost use Rattle.request_machine.specs.Turns.{is_asking, turns_left};
+    ghost use Rattle.request_machine.specs.Linked.{line, way, goes_on, IsLinked, IsOnlyLink, AreDialsOf, IsDriven};
 
     /// The bytes of the next head.
     pub(crate) fn next_head(&self, alloc: Global, request: &Request) -> Result<Bytes, NoMemory>
@@ -72,7 +75,7 @@ impl Machine {
         requires bytes { bytes ≡ head_told self.old request.now }
         ensures past { self.new.past ≡ Event.Headed self.old.links bytes ∷ self.old.past }
         ensures stage { self.new.stage ≡ Stage.Read self.old.links }
-        ensures links { self.new.links ≡ self.old.links }
+        ensures line { line self.new ≡ record (line self.old) { is_dialed = false } }
         ensures ties { (s : Setting) → s.request ≡ request.now → Ties s self.old
             → Ties s self.new }
     {
@@ -101,6 +104,7 @@ impl Machine {
     }
 
     /// Writes the next head.
+    #[tactic(auto, using(crate::proofs::Driving::link_open))]
     pub(crate) fn send<D: Dialer>(&mut self, alloc: Global, request: &Request, dialer: &mut D)
         requires room { length self.old.past < 250 }
         requires few { self.old.heads < 256 }
@@ -110,12 +114,18 @@ impl Machine {
         requires server { IfSome self.old.server IsReady }
         requires undrawn_proxy { nonce_next self.old.drawn_proxy self.old.proxy ≡ None }
         requires undrawn_server { nonce_next self.old.drawn_server self.old.server ≡ None }
-        requires open { IsLinkOpen self.old.link (D.opened dialer.old) }
+        requires linked { IsLinked self.old }
+        requires links { IsOnlyLink (line self.old) (D.opened dialer.old) }
+        requires told { AreDialsOf (line self.old) (D.dials dialer.old) }
         ensures ties { (s : Setting) → s.request ≡ request.now → Ties s self.old
             → Ties s self.new }
         ensures dials { (s : Setting) (before : Option (List Dial))
             → D.dials dialer.old ≡ grown before (dials s self.old.past)
             → D.dials dialer.new ≡ grown before (dials s self.new.past) }
+        ensures driven { IsDriven self.old self.new
+            (D.opened dialer.old) (D.opened dialer.new) (D.dials dialer.new) }
+        ensures nearer { turns_left self.new < turns_left self.old }
+        ensures insides { insides self.new.past ≡ insides self.old.past }
     {
         match self.next_head(alloc, request) {
             Err(NoMemory) => self.spend(),
@@ -138,6 +148,9 @@ impl Machine {
         requires room { length self.old.past < 256 }
         requires stage { self.old.stage ≡ Stage.Read link }
         ensures past { self.new.past ≡ Event.WriteFailed link count ∷ self.old.past }
+        ensures asks { is_asking self.new ≡ true }
+        ensures kept { line self.new ≡ line self.old }
+        ensures goes { IsTrue (goes_on (way self.old.stage) (way self.new.stage)) }
         ensures ties { (s : Setting) → Ties s self.old → Ties s self.new }
     {
         self.push(Event::WriteFailed { link, count });

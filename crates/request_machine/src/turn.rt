@@ -3,44 +3,74 @@
 ghost use Rattle.std.specs.Prelude.{◌≡◌, None};
 
 use crate::machine::Machine;
-use crate::stage::Stage;
-use link_trait::Dialer;
-use spaces::Request;
+use crate::need::Need;
+use crate::stage::{Piece, Stage};
+use link_trait::{Dialer, Prompter};
+use spaces::{Request, Target};
 use std::alloc::Global;
 
 impl Machine {
-    ghost use Rattle.std.specs.Prelude.{◌≡◌, ◌<◌, None, length, false, List, Option};
+    ghost use Rattle.std.specs.Prelude.{◌≡◌, ◌<◌, None, IsTrue, is_some, true, false, List, Option};
     ghost use Rattle.trace_rule.specs.Settings.{Setting};
     ghost use Rattle.trace_rule.specs.Telling.{dials};
     ghost use Rattle.link_trait.specs.Told.{grown};
     ghost use Rattle.link_trait.specs.declared.dialer.Dial.{Dial};
-    ghost use Rattle.request_machine.specs.Kept.{Ties, IsTied};
-    ghost use Rattle.request_machine.specs.Turns.{IsFitAt, IsLinkKept, is_under_way, opened_without};
+    ghost use Rattle.request_machine.specs.Driven.{insides};
+    ghost use Rattle.request_machine.specs.Kept.{Ties};
+    ghost use Rattle.request_machine.specs.Needs.{need_at, IsWantedAt};
+    ghost use Rattle.request_machine.specs.Rooms.{HasSettingOf};
+    ghost use Rattle.request_machine.specs.Turns.{is_asking, is_going, turns_left, opened_without, IsLinkKept};
+    ghost use Rattle.request_machine.specs.Linked.{way, goes_on, is_ending, line, IsLinked, IsOnlyLink, AreDialsOf, IsDriven};
 
     /// Does what comes next, where the machine goes on by itself.
-    #[tactic(auto, using(crate::proofs::NextNonces::answer_there))]
-    pub(crate) fn turn<D: Dialer>(&mut self, alloc: Global, request: &Request, dialer: &mut D)
-        requires room { length self.old.past < 250 }
-        requires few_links { self.old.links < 256 }
-        requires few_heads { self.old.heads < 256 }
-        requires few_rounds { self.old.rounds < 256 }
-        requires tied { IsTied self.old request.now }
-        requires fit { IsFitAt self.old.stage self.old (D.opened dialer.old) (D.dials dialer.old) }
+    pub(crate) fn turn<D: Dialer, P: Prompter>(
+        &mut self,
+        alloc: Global,
+        request: &Request,
+        dialer: &mut D,
+        prompter: &mut P,
+    )
+        requires linked { IsLinked self.old }
+        requires links { IsOnlyLink (line self.old) (D.opened dialer.old) }
+        requires told { AreDialsOf (line self.old) (D.dials dialer.old) }
+        requires idle { is_asking self.old ≡ false }
+        requires going { is_going self.old.stage ≡ true }
+        requires tied { HasSettingOf request.now self.old }
         ensures ties { (s : Setting) → s.request ≡ request.now → Ties s self.old
             → Ties s self.new }
         ensures dials { (s : Setting) (before : Option (List Dial)) → s.request ≡ request.now
             → Ties s self.old → D.dials dialer.old ≡ grown before (dials s self.old.past)
             → D.dials dialer.new ≡ grown before (dials s self.new.past) }
+        ensures driven { IsDriven self.old self.new
+            (D.opened dialer.old) (D.opened dialer.new) (D.dials dialer.new) }
+        ensures insides { insides self.new.past ≡ insides self.old.past }
+        ensures nearer { turns_left self.new < turns_left self.old }
     {
         match self.stage {
             Stage::Go => self.go(alloc, request, dialer),
             Stage::Choose(target) => self.choose(alloc, request, target),
             Stage::Read(link) => self.read(alloc, request, dialer, link),
+            Stage::Ask(prompt, ordinal) => self.ask_next(prompter, prompt, ordinal),
             Stage::NextNonce(target, closing) => self.renew_next(alloc, target, closing),
             Stage::End(outcome) => self.finished(outcome),
             Stage::SpentOver => self.spent_over(),
-            _ => (),
+            Stage::Learn(target, piece) => self.resume(target, piece),
+            _ => unreachable!(),
         }
+    }
+
+    /// Nothing is held of which more is to be told, so the way to the next head goes on.
+    #[tactic(auto, using(crate::proofs::Choosing::resume_ties))]
+    fn resume(&mut self, target: Target, piece: Piece)
+        requires stage { self.old.stage ≡ Stage.Learn target piece }
+        requires idle { is_asking self.old ≡ false }
+        ensures past { self.new.past ≡ self.old.past }
+        ensures kept { line self.new ≡ line self.old }
+        ensures goes { IsTrue (goes_on (way self.old.stage) (way self.new.stage)) }
+        ensures nearer { turns_left self.new < turns_left self.old }
+        ensures ties { (s : Setting) → Ties s self.old → Ties s self.new }
+    {
+        self.stage = Stage::Go;
     }
 
     /// Closes a link that is still open.
@@ -56,24 +86,64 @@ impl Machine {
         }
     }
 
-    /// Closes the link where no head and no reply follows on it.
-    #[tactic(auto, using(crate::proofs::Reading::linked_ties))]
-    pub(crate) fn settle_link<D: Dialer>(&mut self, dialer: &mut D)
-        requires { IsLinkKept self.old.link (D.opened dialer.old) }
-        ensures none { is_under_way self.old.stage ≡ false → self.new.link ≡ None }
-        ensures opened { is_under_way self.old.stage ≡ false
-            → D.opened dialer.new ≡ opened_without self.old.link (D.opened dialer.old) }
-        ensures past { self.new.past ≡ self.old.past }
-        ensures stage { self.new.stage ≡ self.old.stage }
-        ensures dials { D.dials dialer.new ≡ D.dials dialer.old }
-        ensures ties { (s : Setting) → Ties s self.old → Ties s self.new }
+    /// Whether no head and no reply follows any more.
+    fn is_ending(&self) -> bool
+        ensures { result ≡ is_ending (way self.now.stage) }
     {
         match self.stage {
-            Stage::Go => (),
-            Stage::Learn(_, _) => (),
-            Stage::Draw(_, _) => (),
-            Stage::Read(_) => (),
-            _ => self.drop_link(dialer),
+            Stage::NextNonce(_, _) => true,
+            Stage::NameLast(_, _, _) => true,
+            Stage::RenewLast(_, _, _, _) => true,
+            Stage::Close(_) => true,
+            Stage::End(_) => true,
+            Stage::Spent => true,
+            Stage::SpentEnd => true,
+            Stage::SpentOver => true,
+            Stage::Over => true,
+            _ => false,
         }
+    }
+
+    /// Closes the link where no head and no reply follows on it.
+    #[tactic(auto, using(crate::proofs::Beside::linked_ties, crate::proofs::Driving::link_kept))]
+    pub(crate) fn settle_link<D: Dialer>(&mut self, dialer: &mut D)
+        requires linked { IsLinked self.old }
+        requires links { IsOnlyLink (line self.old) (D.opened dialer.old) }
+        requires told { AreDialsOf (line self.old) (D.dials dialer.old) }
+        ensures none { is_ending (way self.new.stage) ≡ true → self.new.link ≡ None }
+        ensures past { self.new.past ≡ self.old.past }
+        ensures same { self.new ≡ record self.old { link = self.new.link } }
+        ensures left { turns_left self.new ≡ turns_left self.old }
+        ensures dials { D.dials dialer.new ≡ D.dials dialer.old }
+        ensures driven { IsDriven self.old self.new
+            (D.opened dialer.old) (D.opened dialer.new) (D.dials dialer.new) }
+        ensures ties { (s : Setting) → Ties s self.old → Ties s self.new }
+    {
+        if self.is_ending() {
+            self.drop_link(dialer);
+        }
+    }
+
+    /// What is asked of the caller, with the link closed where nothing follows on it; nothing where the
+    /// machine goes on by itself.
+    #[tactic(auto, using(crate::proofs::Driving::linked_on, crate::proofs::Needing::wanted_now))]
+    pub(crate) fn next_need<D: Dialer>(&mut self, dialer: &mut D) -> Option<Need>
+        requires linked { IsLinked self.old }
+        requires links { IsOnlyLink (line self.old) (D.opened dialer.old) }
+        requires told { AreDialsOf (line self.old) (D.dials dialer.old) }
+        ensures need { result ≡ need_at self.new self.new.stage }
+        ensures asks { is_some result ≡ is_asking self.new }
+        ensures wanted { (s : Setting) → Ties s self.new → IsWantedAt s self.new self.new.stage }
+        ensures none { is_ending (way self.new.stage) ≡ true → self.new.link ≡ None }
+        ensures past { self.new.past ≡ self.old.past }
+        ensures left { result ≡ None → turns_left self.new ≡ turns_left self.old }
+        ensures dials { D.dials dialer.new ≡ D.dials dialer.old }
+        ensures driven { IsDriven self.old self.new
+            (D.opened dialer.old) (D.opened dialer.new) (D.dials dialer.new) }
+        ensures ties { (s : Setting) → Ties s self.old → Ties s self.new }
+    {
+        let next = self.need();
+        self.settle_link(dialer);
+        next
     }
 }

@@ -5,6 +5,7 @@ use Rattle.auth_runs.specs.declared.event.Event.TheVariants.{Dialed}
 use Rattle.trace_rule.specs.Telling.{dials}
 use Rattle.request_machine.specs.Kept.{Kept}
 use Rattle.request_machine.proofs.Dialing.{one_dial}
+use Rattle.request_machine.proofs.Driving.{driven_given, driven_undialed}
 use Rattle.request_machine.proofs.machine.Machine.dial.Goals as goal
 
 pub returns-in-Link-clause-dials : goal.returns-in-Link-clause-dials
@@ -14,3 +15,20 @@ returns-in-Link-clause-dials g c = λ s before same t told.
     ∙ ap (λ (v : Kept). grown (g.D.Dialer.dials c.args.dialer.now) (record { link = record { request = v.number; nth = v.links + 1 }; to = unwrap_or c.args.request.now.proxy c.args.request.now.place.origin } ∷ [])) c.self.view_is
     ∙ one_dial s c.args.self.now c.args.request.now before (g.D.Dialer.dials c.args.dialer.now) (c.args.self.now.links + 1) same t told
     ∙ ap (λ past. grown before (dials s past)) (sym (c.dialed.ensures.past ∙ ap (λ (v : Kept). Dialed (v.links + 1) ∷ v.past) c.put_link.ensures))
+
+pub returns-in-Link-clause-driven : goal.returns-in-Link-clause-driven
+returns-in-Link-clause-driven g c =
+    driven_given c.args.self.now _ _ (record { request = c.self.inside.number; nth = c.self.inside.links + 1 }) _ _ _ _ _ _
+    c.requires.stage c.requires.undialed (ap (λ (v : Kept). record { request = v.number; nth = v.links + 1 }) c.self.view_is) c.in-Link.ensures.link
+    c.put_link.ensures c.dialed.ensures.stage c.dialed.ensures.line c.in-Link.ensures.opened c.in-Link.ensures.dials
+    c.requires.linked c.requires.links c.requires.told
+
+pub returns-in-Failed-clause-driven : goal.returns-in-Failed-clause-driven
+returns-in-Failed-clause-driven g c =
+    driven_undialed c.args.self.now _ _ _ _ _ c.dial_failed.ensures.kept c.dial_failed.ensures.goes c.in-Failed.ensures.opened c.in-Failed.ensures.dials
+    c.requires.linked c.requires.links c.requires.told
+
+pub returns-in-NoMemory-clause-driven : goal.returns-in-NoMemory-clause-driven
+returns-in-NoMemory-clause-driven g c =
+    driven_undialed c.args.self.now _ _ _ _ _ c.spend.ensures.kept c.spend.ensures.goes c.in-NoMemory.ensures.opened c.in-NoMemory.ensures.dials
+    c.requires.linked c.requires.links c.requires.told

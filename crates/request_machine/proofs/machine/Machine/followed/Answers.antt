@@ -1,7 +1,7 @@
 use Rattle.std.proofs.Common.{sym, subst, ◌∙◌}
 use Rattle.request_machine.specs.declared.stage.Stage.TheVariants.{Take as Taking}
 use Rattle.request_machine.specs.Kept.{Kept, Ties}
-use Rattle.request_machine.proofs.Prompting.{followed_ties}
+use Rattle.request_machine.proofs.Following.{followed_ties}
 use Rattle.request_machine.proofs.machine.Machine.followed.Goals as goal
 
 pub returns-clause-ties : goal.returns-clause-ties

@@ -4,7 +4,7 @@ use Rattle.auth_events.specs.declared.journal.BookReply.TheVariants.{Lost}
 use Rattle.auth_runs.specs.declared.event.Event.TheVariants.{Called}
 use Rattle.request_machine.specs.declared.stage.Stage.TheVariants.{Close}
 use Rattle.request_machine.specs.Kept.{Kept, Ties}
-use Rattle.request_machine.proofs.Prompting.{lost_with_it_ties}
+use Rattle.request_machine.proofs.Following.{lost_with_it_ties}
 use Rattle.request_machine.proofs.machine.Machine.lost_with_it.Goals as goal
 
 pub returns-clause-ties : goal.returns-clause-ties

@@ -4,7 +4,7 @@ use Rattle.auth_events.specs.declared.journal.BookReply.TheVariants.{Cancelled}
 use Rattle.auth_runs.specs.declared.event.Event.TheVariants.{Called}
 use Rattle.request_machine.specs.declared.stage.Stage.TheVariants.{Close}
 use Rattle.request_machine.specs.Kept.{Kept, Ties}
-use Rattle.request_machine.proofs.Prompting.{not_taken_ties}
+use Rattle.request_machine.proofs.Following.{not_taken_ties}
 use Rattle.request_machine.proofs.machine.Machine.not_taken.Goals as goal
 
 pub returns-clause-ties : goal.returns-clause-ties

@@ -1,4 +1,4 @@
-use Rattle.std.proofs.Common.{Some, sym, subst, ap, ◌∙◌}
+use Rattle.std.proofs.Common.{sym, subst, ap, ◌∙◌}
 use Rattle.request_machine.specs.declared.stage.Stage.TheVariants.{NameSpace}
 use Rattle.request_machine.specs.Kept.{Kept, Ties}
 use Rattle.request_machine.proofs.Picking.{picked_ties}

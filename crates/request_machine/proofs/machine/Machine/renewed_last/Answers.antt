@@ -1,9 +1,11 @@
-use Rattle.std.proofs.Common.{◌∷◌, sym, subst, ap, ◌∙◌}
+use Rattle.std.proofs.Common.{◌∷◌, IsTrue, sym, subst, ap, ◌∙◌}
 use Rattle.spaces.specs.declared.site.Target.TheVariants.{Server, Proxy}
 use Rattle.auth_events.specs.declared.journal.Call.TheVariants.{Renew}
 use Rattle.auth_runs.specs.declared.event.Event.TheVariants.{Called}
 use Rattle.request_machine.specs.Told.{held_chosen}
 use Rattle.request_machine.specs.Kept.{Kept, Ties}
+use Rattle.request_machine.specs.Linked.{way, goes_on}
+use Rattle.request_machine.proofs.Driving.{behind_ends}
 use Rattle.request_machine.proofs.Renewing.{renewed_last_ties}
 use Rattle.request_machine.proofs.machine.Machine.renewed_last.Goals as goal
 
@@ -19,3 +21,7 @@ returns-clause-ties c = λ s suited t.
       stage = r;
     })) (sym c.stage_behind-self-inside.ensures)
     (renewed_last_ties s c.args.self.now c.args.target c.args.gift c.args.terms c.args.closing c.args.reply c.requires.stage suited t))
+
+pub returns-clause-goes : goal.returns-clause-goes
+returns-clause-goes c =
+    subst (λ st. IsTrue (goes_on (way c.args.self.now.stage) (way st))) (sym c.stage_behind-self-inside.ensures) (behind_ends (way c.args.self.now.stage) c.args.target c.args.closing)

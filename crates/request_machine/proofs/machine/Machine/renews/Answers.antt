@@ -1,4 +1,4 @@
-use Rattle.std.proofs.Common.{Some, sym, subst, ap, ◌∙◌}
+use Rattle.std.proofs.Common.{sym, subst, ◌∙◌}
 use Rattle.request_machine.specs.declared.stage.Stage.TheVariants.{NameLast}
 use Rattle.request_machine.specs.Kept.{Kept, Ties}
 use Rattle.request_machine.proofs.NextNonces.{renews_ties}

@@ -3,7 +3,7 @@ use Rattle.spaces.specs.declared.site.Target.TheVariants.{Server, Proxy}
 use Rattle.request_machine.specs.declared.stage.Stage.TheVariants.{Go}
 use Rattle.request_machine.specs.Told.{held_chosen}
 use Rattle.request_machine.specs.Kept.{Kept, Ties}
-use Rattle.request_machine.proofs.Prompting.{taken_ties}
+use Rattle.request_machine.proofs.Following.{taken_ties}
 use Rattle.request_machine.proofs.machine.Machine.taken.Goals as goal
 
 pub returns-clause-ties : goal.returns-clause-ties

@@ -1,0 +1,66 @@
+//! The one call that drives a request: all work up to the next thing that the book or the words must
+//! tell.
+
+use crate::gear::Gear;
+use crate::machine::Machine;
+use crate::need::Need;
+use link_trait::{Dialer, Prompter, Tokens};
+use spaces::Roster;
+use std::alloc::Global;
+
+impl Machine {
+    ghost use Rattle.std.specs.Prelude.{◌≡◌, None, Some, IsSome, true, List, Option};
+    ghost use Rattle.spaces.specs.Sites.{numbered};
+    ghost use Rattle.trace_rule.specs.Settings.{Setting};
+    ghost use Rattle.trace_rule.specs.Telling.{dials};
+    ghost use Rattle.link_trait.specs.Told.{grown};
+    ghost use Rattle.link_trait.specs.declared.dialer.Dial.{Dial};
+    ghost use Rattle.request_machine.specs.Driven.{insides};
+    ghost use Rattle.request_machine.specs.Kept.{Ties, IsSettingOf};
+    ghost use Rattle.request_machine.specs.Needs.{need_at, IsWantedAt};
+    ghost use Rattle.request_machine.specs.Rooms.{HasSettingIn};
+    ghost use Rattle.request_machine.specs.Linked.{way, line, is_ending, of_others, IsLinked, IsOnlyLink, AreDialsOf};
+
+    /// Goes on with the request up to what the book or the words must tell next, or to its end. The
+    /// roster is the one of which the machine was made. Of the request's links only the machine's own
+    /// may be open, and none may have been dialed that the machine did not dial.
+    pub fn step<D: Dialer, T: Tokens, P: Prompter>(
+        &mut self,
+        alloc: Global,
+        roster: &Roster,
+        gear: &mut Gear<D, T>,
+        prompter: &mut P,
+    ) -> Need
+        requires tied { HasSettingIn roster.now self.old }
+        requires linked { IsLinked self.old }
+        requires links { IsOnlyLink (line self.old) (D.opened gear.old.dialer) }
+        requires told { AreDialsOf (line self.old) (D.dials gear.old.dialer) }
+        ensures number { self.new.number ≡ self.old.number }
+        ensures seed { self.new.seed ≡ self.old.seed }
+        ensures ties { (s : Setting) → IsSettingOf s roster.now self.old.number self.old.seed
+            → Ties s self.old → Ties s self.new }
+        ensures need { need_at self.new self.new.stage ≡ Some result }
+        ensures wanted { (s : Setting) → Ties s self.new → IsWantedAt s self.new self.new.stage }
+        ensures linked { IsLinked self.new }
+        ensures links { IsOnlyLink (line self.new) (D.opened gear.new.dialer) }
+        ensures dialed { AreDialsOf (line self.new) (D.dials gear.new.dialer) }
+        ensures closed { is_ending (way self.new.stage) ≡ true → self.new.link ≡ None }
+        ensures others { of_others self.old.number (D.opened gear.new.dialer)
+            ≡ of_others self.old.number (D.opened gear.old.dialer) }
+        ensures dials { (s : Setting) (before : Option (List Dial))
+            → IsSettingOf s roster.now self.old.number self.old.seed → Ties s self.old
+            → D.dials gear.old.dialer ≡ grown before (dials s self.old.past)
+            → D.dials gear.new.dialer ≡ grown before (dials s self.new.past) }
+        ensures insides { insides self.new.past ≡ insides self.old.past }
+    {
+        let Some(request) = roster.requests.get(self.number) else {
+            unreachable!()
+        };
+        loop {
+            if let Some(need) = self.next_need(&mut gear.dialer) {
+                return need;
+            }
+            self.turn(alloc, request, &mut gear.dialer, prompter);
+        }
+    }
+}
