@@ -49,6 +49,15 @@ ratio() {
   }'
 }
 
+# NAME COUNT [LIMIT]: a kernel of the program `kernels` against that of the program `plain`.
+against_plain() {
+  local name=$1 count=$2
+  ours() { "$kernels" "$name" "$count"; }
+  theirs() { "$plain" "$name" "$count"; }
+  by_turns 0 ours 0 theirs
+  ratio "$name" "${3:-}"
+}
+
 # STATUS COMMAND..: the peak of memory in KiB, in `peak`, by GNU time, or else by looking at the process
 # again and again while it runs, which can miss a short peak. Standard input is the command's.
 peak=

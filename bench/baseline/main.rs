@@ -22,6 +22,7 @@ fn run(kernel: &str, times: u32) -> Option<u32> {
         "turns1" => Some(turns::run(1, times)),
         "turns2" => Some(turns::run(2, times)),
         "turns4" => Some(turns::run(4, times)),
+        "turns16" => Some(turns::run(16, times)),
         "draws1" => Some(draws::run(1, times)),
         "draws2" => Some(draws::run(2, times)),
         "draws4" => Some(draws::run(4, times)),

@@ -47,7 +47,7 @@ fn run<R: AllocGlobal + Threads + Wait + Sync>(rt: &R, kernel: Kernel, times: u3
         Kernel::PromptsQuarter => prompts::run(alloc, 128, times),
         Kernel::Replies => replies::run(alloc, times),
         Kernel::Respond(algorithm) => respond::run(alloc, algorithm, times),
-        Kernel::Turns(crew) => turns::run(rt, alloc, crew, times),
+        Kernel::Turns(threads) => turns::run(rt, alloc, threads, times),
         Kernel::Draws(crew) => draws::run(rt, alloc, crew, times),
     };
     compared(done, times)

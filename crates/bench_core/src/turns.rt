@@ -1,9 +1,9 @@
-//! Turns that one thread, two or four take on one list of notes. Each turn adds a note.
+//! Turns that one thread, two, four or sixteen take on one list of notes. Each turn adds a note.
 
-ghost use Rattle.std.specs.Prelude.{◌≡◌, ◌+◌, ◌++◌, ◌∷◌, [], ◌<◌, ◌≤◌, ◌^◌, All, length, vec_len, IsTrue, MatchBool, IfOk};
+ghost use Rattle.std.specs.Prelude.{◌≡◌, ◌+◌, ◌-◌, ◌++◌, ◌∷◌, [], ◌<◌, ◌≤◌, ◌^◌, All, length, vec_len, IsTrue, MatchBool, IfOk};
 ghost use Rattle.turnstile.specs.Passes.{IsOf, IsNewPass, AreNewPasses};
+ghost use Rattle.bench_core.specs.Turns.{turns_of};
 
-use crate::words::Crew;
 use auth_text::NoMemory;
 use std::alloc::Global;
 use std::sync::Wait;
@@ -96,57 +96,6 @@ fn take_turns<R: Wait>(
     (Worker { pass, number }, true)
 }
 
-/// So many turns in all, by two workers in a thread each.
-fn take_turns_by_two<R: Wait + Threads + Sync>(
-    rt: &R,
-    lock: &Turnstile<Notes>,
-    first: Worker,
-    second: Worker,
-    times: u32,
-) -> (Worker, Worker, bool)
-    requires { IsOf lock.now first.pass × IsOf lock.now second.pass }
-    ensures workers { IsOf lock.now result.0.pass × IsOf lock.now result.1.pass }
-    ensures turns { IsTrue result.2 → length result.0.pass.mine + length result.1.pass.mine ≡ length first.pass.mine + length second.pass.mine + times }
-{
-    let half = times / 2;
-    let ((first, first_done), (second, second_done)) = join(
-        rt,
-        move || take_turns(rt, lock, first, times - half),
-        move || take_turns(rt, lock, second, half),
-    );
-    (first, second, first_done && second_done)
-}
-
-/// So many turns in all, by four workers in a thread each.
-fn take_turns_by_four<R: Wait + Threads + Sync>(
-    rt: &R,
-    lock: &Turnstile<Notes>,
-    first: Worker,
-    second: Worker,
-    third: Worker,
-    fourth: Worker,
-    times: u32,
-) -> (Worker, Worker, Worker, Worker, bool)
-    requires front { IsOf lock.now first.pass × IsOf lock.now second.pass }
-    requires back { IsOf lock.now third.pass × IsOf lock.now fourth.pass }
-    ensures front { IsOf lock.now result.0.pass × IsOf lock.now result.1.pass }
-    ensures back { IsOf lock.now result.2.pass × IsOf lock.now result.3.pass }
-    ensures turns { IsTrue result.4 → length result.0.pass.mine + length result.1.pass.mine + length result.2.pass.mine + length result.3.pass.mine ≡ length first.pass.mine + length second.pass.mine + length third.pass.mine + length fourth.pass.mine + times }
-{
-    let half = times / 2;
-    let ((first, second, front_done), (third, fourth, back_done)) = join(
-        rt,
-        move ||
-            requires share { half ≤ times }
-            requires front { IsOf lock.now first.pass × IsOf lock.now second.pass }
-        { take_turns_by_two(rt, lock, first, second, times - half) },
-        move ||
-            requires back { IsOf lock.now third.pass × IsOf lock.now fourth.pass }
-        { take_turns_by_two(rt, lock, third, fourth, half) },
-    );
-    (first, second, third, fourth, front_done && back_done)
-}
-
 /// A list of notes with room for so many, behind a turnstile with so many passes.
 fn opened(
     alloc: Global,
@@ -184,7 +133,7 @@ fn last_pass(lock: &Turnstile<Notes>, passes: &mut Passes<Notes>) -> Pass<Notes>
 fn last_worker(lock: &Turnstile<Notes>, passes: &mut Passes<Notes>, number: u32) -> Worker
     requires number { (0 < number) × (length passes.old.list ≡ number) }
     requires new { AreNewPasses lock.now passes.old.list }
-    ensures worker { IsOf lock.now result.pass }
+    ensures worker { IsOf lock.now result.pass × (result.pass.mine ≡ []) }
     ensures rest { AreNewPasses lock.now passes.new.list }
     ensures len { length passes.new.list + 1 ≡ length passes.old.list }
     ensures room { (passes.new.room ≡ passes.old.room) × (length passes.old.list ≤ passes.new.room) }
@@ -198,6 +147,7 @@ fn put_back(lock: &Turnstile<Notes>, passes: &mut Passes<Notes>, worker: Worker)
     requires room { length passes.old.list < passes.old.room }
     requires all { All (IsOf lock.now) passes.old.list }
     requires worker { IsOf lock.now worker.pass }
+    ensures list { passes.new.list ≡ passes.old.list ++ worker.pass ∷ [] }
     ensures len { length passes.new.list ≡ length passes.old.list + 1 }
     ensures all { All (IsOf lock.now) passes.new.list }
     ensures room { passes.old.room ≤ passes.new.room }
@@ -224,50 +174,56 @@ fn counted(notes: u32, is_complete: bool) -> Result<u32, NoMemory> {
     }
 }
 
-fn by_one<R: Wait>(rt: &R, alloc: Global, times: u32) -> Result<u32, NoMemory> {
-    let (lock, mut passes) = opened(alloc, 1, times)?;
-    let first = last_worker(&lock, &mut passes, 1);
-    let (first, is_complete) = take_turns(rt, &lock, first, times);
-    put_back(&lock, &mut passes, first);
-    counted(closed(lock, passes), is_complete)
-}
-
-fn by_two<R: Wait + Threads + Sync>(rt: &R, alloc: Global, times: u32) -> Result<u32, NoMemory> {
-    let (lock, mut passes) = opened(alloc, 2, times)?;
-    let second = last_worker(&lock, &mut passes, 2);
-    let first = last_worker(&lock, &mut passes, 1);
-    let (first, second, is_complete) = take_turns_by_two(rt, &lock, first, second, times);
-    put_back(&lock, &mut passes, first);
-    put_back(&lock, &mut passes, second);
-    counted(closed(lock, passes), is_complete)
-}
-
-fn by_four<R: Wait + Threads + Sync>(rt: &R, alloc: Global, times: u32) -> Result<u32, NoMemory> {
-    let (lock, mut passes) = opened(alloc, 4, times)?;
-    let fourth = last_worker(&lock, &mut passes, 4);
-    let third = last_worker(&lock, &mut passes, 3);
-    let second = last_worker(&lock, &mut passes, 2);
-    let first = last_worker(&lock, &mut passes, 1);
-    let (first, second, third, fourth, is_complete) = take_turns_by_four(
-        rt, &lock, first, second, third, fourth, times,
+/// So many turns in all, by the passes of the list in a thread each. It tells whether there was room for
+/// all notes.
+fn take_turns_by_all<R: Wait + Threads + Sync>(
+    rt: &R,
+    lock: &Turnstile<Notes>,
+    mut passes: Passes<Notes>,
+    times: u32,
+) -> (Passes<Notes>, bool)
+    requires few { length passes.list ≤ 16 }
+    requires new { AreNewPasses lock.now passes.list }
+    ensures all { All (IsOf lock.now) result.0.list }
+    ensures len { length result.0.list ≡ length passes.list }
+    ensures room { passes.room ≤ result.0.room }
+    ensures turns { IsTrue result.1 → turns_of result.0.list ≡ times }
+{
+    let number = passes.len() as u32;
+    if number == 0 {
+        return (passes, times == 0);
+    }
+    let share = times / number;
+    let worker = last_worker(lock, &mut passes, number);
+    let ((worker, done), (mut passes, others)) = join(
+        rt,
+        move || take_turns(rt, lock, worker, share),
+        move ||
+            requires few { length passes.list ≤ 16 }
+            requires new { AreNewPasses lock.now passes.list }
+            requires share { share ≤ times }
+            ensures all { All (IsOf lock.entry.now) result.0.list }
+            ensures len { length result.0.list ≡ length passes.list }
+            ensures room { passes.room ≤ result.0.room }
+            ensures turns { IsTrue result.1 → turns_of result.0.list ≡ times - share }
+        { take_turns_by_all(rt, lock, passes, times - share) },
     );
-    put_back(&lock, &mut passes, first);
-    put_back(&lock, &mut passes, second);
-    put_back(&lock, &mut passes, third);
-    put_back(&lock, &mut passes, fourth);
-    counted(closed(lock, passes), is_complete)
+    put_back(lock, &mut passes, worker);
+    (passes, done && others)
 }
 
-/// Takes so many turns by a crew of threads, and tells how many notes there are at the end.
+/// Takes so many turns by so many threads, and tells how many notes there are at the end. There are 1 to
+/// 16 threads; by none, or by more, no turn is taken.
 pub fn run<R: Wait + Threads + Sync>(
     rt: &R,
     alloc: Global,
-    crew: Crew,
+    threads: u32,
     times: u32,
 ) -> Result<u32, NoMemory> {
-    match crew {
-        Crew::One => by_one(rt, alloc, times),
-        Crew::Two => by_two(rt, alloc, times),
-        Crew::Four => by_four(rt, alloc, times),
+    if threads == 0 || threads > 16 {
+        return Ok(0);
     }
+    let (lock, passes) = opened(alloc, threads, times)?;
+    let (passes, is_complete) = take_turns_by_all(rt, &lock, passes, times);
+    counted(closed(lock, passes), is_complete)
 }

@@ -30,7 +30,7 @@ pub enum Kernel {
     /// Readings of one reply of 60,000 bytes, fed whole.
     Replies,
     /// Turns on one list by this many threads.
-    Turns(Crew),
+    Turns(u32),
     /// Draws of one nonce's counts by this many threads.
     Draws(Crew),
 }
@@ -47,9 +47,10 @@ pub fn kernel_of(name: &str) -> Option<Kernel> {
         "respond-md5" => Some(Kernel::Respond(Algorithm::Md5)),
         "respond-sha256" => Some(Kernel::Respond(Algorithm::Sha256)),
         "replies" => Some(Kernel::Replies),
-        "turns1" => Some(Kernel::Turns(Crew::One)),
-        "turns2" => Some(Kernel::Turns(Crew::Two)),
-        "turns4" => Some(Kernel::Turns(Crew::Four)),
+        "turns1" => Some(Kernel::Turns(1)),
+        "turns2" => Some(Kernel::Turns(2)),
+        "turns4" => Some(Kernel::Turns(4)),
+        "turns16" => Some(Kernel::Turns(16)),
         "draws1" => Some(Kernel::Draws(Crew::One)),
         "draws2" => Some(Kernel::Draws(Crew::Two)),
         "draws4" => Some(Kernel::Draws(Crew::Four)),
