@@ -1,7 +1,7 @@
 -- Maps that know the names of a book, and one name more.
-use Rattle.std.proofs.Common.{◌≡◌, ◌∙◌, ℕ, ◌+◌, ◌==◌, Bool, true, false, ◌&&◌, List, [], ◌∷◌, ◌++◌, length, Option, Some, None, refl, ap, sym, subst, arith, BTreeMap}
+use Rattle.std.proofs.Common.{◌≡◌, ◌∙◌, ℕ, ◌+◌, ◌==◌, Bool, true, ◌&&◌, List, length, Option, Some, None, sym, BTreeMap}
 use Rattle.std.specs.Prelude.{IsTrue}
-use Rattle.std.specs.BTreeMap.{IsUnchanged, Updates, get}
+use Rattle.std.specs.BTreeMap.{Updates, get}
 use Rattle.std.specs.Coded.{Coded, Coded-set, codes}
 use Rattle.std.specs.Ordering.{is_eq}
 use Rattle.std.specs.declared.cmp.Ordering.{Ordering}

@@ -5,7 +5,6 @@ use Rattle.std.specs.Ordering.{is_eq}
 use Rattle.spaces.specs.ProtectionSpaces.{ProtectionSpace}
 use Rattle.spaces.specs.Sites.{same_site}
 use Rattle.spaces.specs.declared.site.Site.{Site}
-use Rattle.auth_events.specs.Tables.{number_of}
 use Rattle.auth_events.proofs.Same.{site_refl, site_same}
 use Rattle.space_keys.specs.declared.keys.SiteKey.{SiteKey}
 use Rattle.space_keys.specs.Keys.{IsKeyOfSite, site_cmp}

@@ -1,9 +1,8 @@
 -- A site that is known keeps its number, and another gets the next one.
-use Rattle.std.proofs.Common.{◌≡◌, ◌∙◌, ◌+◌, ℕ, Some, None, ap, sym, subst, arith}
+use Rattle.std.proofs.Common.{◌≡◌, ◌∙◌, ◌+◌, Some, ap, sym, subst, arith}
 use Rattle.std.proofs.lemmas.Grind.{common_steps}
 use Rattle.std.specs.BTreeMap.{get}
 use Rattle.space_keys.specs.Keys.{IsKeyOfSite, site_cmp}
-use Rattle.name_index.specs.Found.{first_of_site}
 use Rattle.name_index.proofs.Sites.{first_known, first_next, site_kept, site_more, site_noted, site_read}
 use Rattle.name_index.proofs.noting.note_site.Goals as goal
 
