@@ -1,5 +1,6 @@
 -- The link and the space that is asked for stand beside what the past says.
 use Rattle.std.proofs.Common.{Option}
+use Rattle.spaces.specs.declared.site.Target.TheVariants.{Server, Proxy, Socks}
 use Rattle.spaces.specs.ProtectionSpaces.{ProtectionSpace}
 use Rattle.trace_rule.specs.Settings.{Setting}
 use Rattle.link_trait.specs.declared.links.LinkName.{LinkName}
@@ -10,7 +11,9 @@ use Rattle.request_machine.specs.Kept.{Kept, IsKept, Ties}
 kept_beside : (s : Setting) (m : Kept) (link : Option LinkName) (space : Option ProtectionSpace) (stage : Stage) → IsKept s m stage → IsKept s (record m { link = link; space = space }) stage
 kept_beside s m link space (Calling call) kept = kept
 kept_beside s m link space Go kept = kept
-kept_beside s m link space (Learn t piece) kept = kept
+kept_beside s m link space (Learn Proxy piece) kept = kept
+kept_beside s m link space (Learn Server piece) kept = kept
+kept_beside s m link space (Learn Socks piece) kept = kept
 kept_beside s m link space (Draw t nonce) kept = kept
 kept_beside s m link space (Choose t) kept = kept
 kept_beside s m link space (NameSpace t) kept = kept

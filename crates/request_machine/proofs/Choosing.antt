@@ -1,7 +1,7 @@
 -- The choice of a challenge.
-use Rattle.std.proofs.Common.{◌≡◌, false, List, [], ◌∷◌, ◌++◌, Option, Some, None, ap, ◌∙◌, if◌then◌else◌, subst, drop, map, unwrap_or, option_map}
+use Rattle.std.proofs.Common.{◌≡◌, false, List, [], ◌∷◌, ◌++◌, Option, Some, None, ap, ◌∙◌, if◌then◌else◌, subst, drop, map, unwrap_or, option_map, IfSome}
 use Rattle.spaces.specs.declared.site.Target.{Target}
-use Rattle.spaces.specs.declared.site.Target.TheVariants.{Server, Proxy}
+use Rattle.spaces.specs.declared.site.Target.TheVariants.{Server, Proxy, Socks}
 use Rattle.spaces.specs.Sites.{same_target}
 use Rattle.auth_events.specs.declared.journal.Gift.{Gift}
 use Rattle.auth_events.specs.declared.journal.Call.TheVariants.{End as CallEnd}
@@ -17,11 +17,12 @@ use Rattle.trace_rule.specs.Closings.{closings, closings_made, note_for, is_chal
 use Rattle.request_machine.specs.declared.stage.Stage.{Stage}
 use Rattle.request_machine.specs.declared.stage.Stage.TheVariants.{Go, Learn, Choose, Close}
 use Rattle.request_machine.specs.declared.stage.Piece.{Piece}
-use Rattle.request_machine.specs.Kept.{Kept, IsKept, IsChosen, Ties, IsStage, IsOpen, is_after_end, can_stop, note_call}
+use Rattle.request_machine.specs.Kept.{Kept, holding, IsKept, IsChosen, Ties, IsStage, IsOpen, is_after_end, can_stop, note_call}
 use Rattle.request_machine.proofs.Sending.{only_end}
 use Rattle.request_machine.proofs.Ending.{joined}
 use Rattle.request_machine.proofs.Challenged.{challenges_it, notes_by}
-use Rattle.request_machine.specs.Told.{unless_it}
+use Rattle.request_machine.specs.declared.holding.Holding.{Holding}
+use Rattle.request_machine.specs.Told.{unless_it, IsLack, IsLacking}
 
 pub chosen : (s : Setting) (past : List Event) (reply : Reply) (t : Target) (o : Option Offer) → IsChosen s past reply t o → select s past ≡ choose s reply.code t o
 chosen s past reply t o is =
@@ -78,8 +79,17 @@ refused_ties s m reply x same is t =
     (ap is_after_end same) (ap can_stop same) tt tt
 
 -- the book is to tell more of what is held
-pub learn_ties : (s : Setting) (m : Kept) (t : Target) (piece : Piece) → m.stage ≡ Go → Ties s m → Ties s (record m { stage = Learn t piece })
-learn_ties s m x piece same t = staged s m (Learn x piece) t (subst (IsStage s m.past) same t.stage) (ap is_after_end same) (ap can_stop same) (only_end s m Go same t (λ n e. e)) tt
+pub learn_ties : (s : Setting) (m : Kept) (t : Target) (piece : Piece) → m.stage ≡ Go → IsLacking piece (holding m t) → Ties s m → Ties s (record m { stage = Learn t piece })
+learn_ties s m x piece same lack t = staged s m (Learn x piece) t (subst (IsStage s m.past) same t.stage) (ap is_after_end same) (ap can_stop same) (only_end s m Go same t (λ n e. e)) (at x lack)
+  where
+    some : (o : Option Holding) → IsLacking piece o → IfSome o (IsLack piece)
+    some None lacks = tt
+    some (Some h) lacks = lacks
+
+    at : (y : Target) → IsLacking piece (holding m y) → IfSome (holding (record m { stage = Learn x piece }) y) (IsLack piece)
+    at Proxy lacks = some m.proxy lacks
+    at Server lacks = some m.server lacks
+    at Socks lacks = tt
 
 pub resume_ties : (s : Setting) (m : Kept) (t : Target) (piece : Piece) → m.stage ≡ Learn t piece → Ties s m → Ties s (record m { stage = Go })
 resume_ties s m x piece same t = staged s m Go t (subst (IsStage s m.past) same t.stage) (ap is_after_end same) (ap can_stop same) (only_end s m (Learn x piece) same t (λ n e. e)) tt

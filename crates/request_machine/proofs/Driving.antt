@@ -19,6 +19,7 @@ use Rattle.request_machine.specs.declared.stage.Piece.{Piece}
 use Rattle.request_machine.specs.declared.holding.Holding.{Holding}
 use Rattle.request_machine.specs.Changed.{holding}
 use Rattle.request_machine.specs.Needs.{need_at, need_of}
+use Rattle.request_machine.specs.Told.{IsLacking}
 use Rattle.request_machine.specs.Kept.{Kept, IsLinkOpen}
 use Rattle.request_machine.specs.Turns.{next_link, IsLinkKept, opened_without, is_asking, turns_at, turns_left}
 use Rattle.request_machine.specs.Linked.{Way, way, goes_on, is_away, is_ending, Line, line, IsLinkedOn, IsLinked, nth_link, IsOnlyLink, AreDialsOf, of_others, IsDriven}
@@ -364,11 +365,11 @@ asks_nearer m n asks idle =
     omega (arith, none, left, some)
 
 -- a machine that learns of what it holds asks
-pub learns : (m : Kept) (t : Target) (piece : Piece) → is_some (holding m t) ≡ true → is_asking (record m { stage = Learn t piece }) ≡ true
-learns m t piece some = at (holding m t) some
+pub learns : (m : Kept) (t : Target) (piece : Piece) → IsLacking piece (holding m t) → is_asking (record m { stage = Learn t piece }) ≡ true
+learns m t piece lack = at (holding m t) lack
   where
-    at : (o : Option Holding) → is_some o ≡ true → is_some (option_map (need_of piece) o) ≡ true
-    at None e = absurd (false≢true e)
+    at : (o : Option Holding) → IsLacking piece o → is_some (option_map (need_of piece) o) ≡ true
+    at None e = absurd e
     at (Some h) e = refl
 
 -- what follows a renewal at the end is at the end

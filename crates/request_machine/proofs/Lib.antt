@@ -27,6 +27,9 @@ pub mod Numbers
 pub mod Renewing
 pub mod Rooms
 pub mod Driving
+pub mod Working
+pub mod Stepping
+pub mod Finishing
 pub mod Picking
 pub mod Deciding
 pub mod NextNonces

@@ -1,5 +1,5 @@
 -- The first stages, and what the book tells of what is held.
-use Rattle.std.proofs.Common.{◌≡◌, ℕ, false, List, [], ◌∷◌, Option, Some, None, refl, sym, ap, ◌∙◌, zero-add, IsTrue, IfSome, subst, is_some, option_map, unwrap_or, Result, Ok, Err, IfOk}
+use Rattle.std.proofs.Common.{◌≡◌, ℕ, false, List, [], ◌∷◌, Option, Some, None, refl, sym, ap, ◌∙◌, zero-add, IsTrue, IfSome, subst, is_some, option_map, unwrap_or, Result, Ok, Err, IfOk, Bool, true}
 use Rattle.std.specs.List.{list_any}
 use Rattle.auth_text.specs.Login.{Login}
 use Rattle.spaces.specs.declared.site.Target.{Target}
@@ -23,7 +23,7 @@ use Rattle.request_machine.specs.declared.stage.Piece.{Piece}
 use Rattle.request_machine.specs.declared.stage.Stage.{Stage}
 use Rattle.request_machine.specs.declared.stage.Stage.TheVariants.{Call as Calling, Go, Learn}
 use Rattle.request_machine.specs.Kept.{IsSettingOf, Kept, Ties, IsStage, IsOf, IsOpen, IsHeld, terms_kept, is_after_end, can_stop}
-use Rattle.request_machine.specs.Told.{target_of, held_first, with_space, with_identity, with_named}
+use Rattle.request_machine.specs.Told.{is_first, target_of, held_first, with_space, with_identity, with_named}
 use Rattle.request_machine.proofs.Quiet.{quiet_ties, still_ties, begin_still, preempt_still, same_held}
 use Rattle.request_machine.proofs.Targets.{ready_target}
 use Rattle.request_machine.proofs.Replies.{ready_is_held, no_follow}
@@ -85,14 +85,18 @@ new_ties s request number seed same = record {
   may_stop = refl;
   prompt = refl;
   open_still = refl;
-  kept = tt;
+  kept = refl;
 }
+
+first_preempts : (proxied : Bool) → IsTrue (is_first (Preempt (target_of proxied)))
+first_preempts true = refl
+first_preempts false = refl
 
 pub begun_ties : (s : Setting) (m : Kept) (reply : BookReply) → m.stage ≡ Calling Begin → IsTrue (suits s m.past Begin reply) → Ties s m
     → Ties s (record m { past = Called Begin reply ∷ m.past; stage = Calling (Preempt (target_of m.is_proxied)) })
 begun_ties s m reply same suited t =
     let no_end : list_any is_end m.past ≡ false = t.ended ∙ ap is_after_end same in
-    quiet_ties s m (Called Begin reply) (Calling (Preempt (target_of m.is_proxied))) (begin_still s m.past reply) (λ x. refl) t tt (record {
+    quiet_ties s m (Called Begin reply) (Calling (Preempt (target_of m.is_proxied))) (begin_still s m.past reply) (λ x. refl) t (first_preempts m.is_proxied) (record {
       stands = (call_is_past s m.past m.stage Begin reply same t.stage suited, ap (λ b. Calls (Preempt (target_of b))) t.route);
       ended = no_end;
       may_stop = rw (no_follow s m.past Begin reply (λ p. refl) suited, no_end) refl;
@@ -104,7 +108,7 @@ pub preempted_proxy_ties : (s : Setting) (m : Kept) (reply : BookReply) → m.st
     → Ties s (record m { past = Called (Preempt Proxy) reply ∷ m.past; stage = Calling (Preempt Server); proxy = held_first reply m.proxy })
 preempted_proxy_ties s m reply same suited t =
     let no_end : list_any is_end m.past ≡ false = t.ended ∙ ap is_after_end same in
-    still_ties s m (Called (Preempt Proxy) reply) (Calling (Preempt Server)) (held_first reply m.proxy) m.server (preempt_still s m.past Proxy reply) t tt
+    still_ties s m (Called (Preempt Proxy) reply) (Calling (Preempt Server)) (held_first reply m.proxy) m.server (preempt_still s m.past Proxy reply) t refl
     (ready_is_held s m.past Proxy (Called (Preempt Proxy) reply) reply m.proxy (λ gift terms epoch e. ready_target s Proxy gift terms epoch (subst (λ r. IsTrue (suits s m.past (Preempt Proxy) r)) e suited)) t.proxy refl)
     (same_held s m.past (Called (Preempt Proxy) reply) Server m.server refl t.server)
     (record {

@@ -35,7 +35,7 @@ use Rattle.request_machine.specs.declared.holding.Context.{Context}
 use Rattle.request_machine.specs.declared.holding.NamedTerms.{NamedTerms}
 use Rattle.request_machine.specs.declared.holding.Holding.{Holding}
 use Rattle.auth_runs.specs.declared.event.Outcome.{Outcome}
-use Rattle.request_machine.specs.Told.{IsReady}
+use Rattle.request_machine.specs.Told.{IsReady, IsLack, is_first}
 use Rattle.request_machine.specs.declared.stage.Closing.{Closing}
 use Rattle.request_machine.specs.declared.stage.Prompt.{Prompt}
 use Rattle.request_machine.specs.declared.stage.Stage.{Stage}
@@ -81,6 +81,12 @@ pub record Kept : Type 0 where
   pub space : Option ProtectionSpace
   -- the link that is open
   pub link : Option LinkName
+
+-- what is held for the target
+abbrev pub holding : Kept → Target → Option Holding
+holding m Proxy = m.proxy
+holding m Server = m.server
+holding m Socks = None
 
 -- there is a link, and it is one of those that are open
 abbrev pub IsLinkOpen : Option LinkName → List LinkName → Type 0
@@ -344,6 +350,8 @@ IsOpen stage made = made ≡ 0
 
 -- what is kept beside the past for what comes next
 abbrev pub IsKept : Setting → Kept → Stage → Type 0
+IsKept s m (Calling call) = IsTrue (is_first call)
+IsKept s m (Learn t piece) = IfSome (holding m t) (IsLack piece)
 IsKept s m (NameSpace t) = IsSpacePicked s m.past m.unnamed_space m.unnamed_terms t
 IsKept s m (NameTerms t n) = AreTermsPicked s m.past m.unnamed_terms t n
 IsKept s m (NameText p) = IsSome m.given

@@ -14,3 +14,4 @@ pub mod Driven
 pub mod Asking
 pub mod Reads
 pub mod Gives
+pub mod Work

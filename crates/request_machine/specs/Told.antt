@@ -8,11 +8,15 @@ use Rattle.spaces.specs.ProtectionSpaces.{ProtectionSpace}
 use Rattle.spaces.specs.Sites.{same_scheme, same_target}
 use Rattle.trace_rule.specs.Moves.{has_count}
 use Rattle.auth_events.specs.declared.journal.Gift.{Gift}
+use Rattle.auth_events.specs.declared.journal.Call.{Call}
+use Rattle.auth_events.specs.declared.journal.Call.TheVariants.{Begin, Preempt}
 use Rattle.auth_events.specs.declared.journal.BookReply.{BookReply}
 use Rattle.auth_events.specs.declared.journal.BookReply.TheVariants.{Ready}
 use Rattle.auth_text.specs.Login.{Login}
 use Rattle.auth_runs.specs.declared.event.Outcome.{Outcome}
 use Rattle.request_machine.specs.declared.stage.Closing.{Closing}
+use Rattle.request_machine.specs.declared.stage.Piece.{Piece}
+use Rattle.request_machine.specs.declared.stage.Piece.TheVariants.{Space, Identity, Terms}
 use Rattle.request_machine.specs.declared.holding.NamedTerms.{NamedTerms}
 use Rattle.request_machine.specs.declared.holding.Holding.{Holding}
 
@@ -33,6 +37,23 @@ pub record IsReady (h : Holding) : Type 0 where
   pub free : h.context ≡ None
   pub identity : IsSome h.identity
   pub named : scheme_told h.space Digest ≡ true → IsSome h.named
+
+-- the piece is lacking of it
+abbrev pub IsLack : Piece → Holding → Type 0
+IsLack Space h = h.space ≡ None
+IsLack Identity h = h.identity ≡ None
+IsLack Terms h = (scheme_told h.space Digest ≡ true) × (h.named ≡ None)
+
+abbrev pub IsLacking : Piece → Option Holding → Type 0
+IsLacking piece None = ⊥
+IsLacking piece (Some h) = IsLack piece h
+
+-- the calls that a request begins with
+abbrev pub is_first : Call → Bool
+is_first Begin = true
+is_first (Preempt Proxy) = true
+is_first (Preempt Server) = true
+is_first call = false
 
 -- the first target of a route
 abbrev pub target_of : Bool → Target

@@ -1,11 +1,11 @@
 -- Turns of a machine: what it does by itself, one after another, until it asks for something.
-use Rattle.std.specs.Prelude.{ℕ, ◌≡◌, ◌+◌, Bool, true, false, List, Some, None, is_some, if◌then◌else◌}
+use Rattle.std.specs.Prelude.{ℕ, ◌≡◌, ◌⊎◌, ◌+◌, Bool, true, false, List, Some, None, is_some, if◌then◌else◌}
 use Rattle.std.specs.declared.option.Option.{Option}
 use Rattle.link_trait.specs.declared.links.LinkName.{LinkName}
 use Rattle.link_trait.specs.Links.{has_link, without_link}
 use Rattle.spaces.specs.declared.site.Target.TheVariants.{Proxy}
 use Rattle.request_machine.specs.declared.stage.Stage.{Stage}
-use Rattle.request_machine.specs.declared.stage.Stage.TheVariants.{Go, Learn, Choose, Read, Ask, NextNonce, End, SpentOver}
+use Rattle.request_machine.specs.declared.stage.Stage.TheVariants.{Go, Learn, Choose, Read, Ask, NextNonce, End, Spent, SpentOver}
 use Rattle.request_machine.specs.Kept.{Kept}
 use Rattle.request_machine.specs.Needs.{need_at}
 
@@ -21,6 +21,10 @@ IsLinkKept (Some link) opened = has_link link opened ≡ true
 abbrev pub opened_without : Option LinkName → List LinkName → List LinkName
 opened_without None opened = opened
 opened_without (Some link) opened = without_link link opened
+
+-- nothing has changed but that the link may be closed, or memory has run out
+abbrev pub IsStill : Kept → Kept → Type 0
+IsStill m n = (n ≡ record m { link = n.link }) ⊎ (n.stage ≡ Spent)
 
 -- HOW MANY TURNS ARE LEFT
 

@@ -1,5 +1,5 @@
 //! Prompts. One that the request leads is asked of the user, and the book is told the answer, or that
-//! the prompt is lost; of one that another request leads the answer is taken.
+//! the prompt is lost.
 
 ghost use Rattle.std.specs.Prelude.{◌≡◌};
 ghost use Rattle.request_machine.specs.Asking.{stage_asked, outcome_lost, unless_told};
@@ -16,7 +16,8 @@ use link_trait::{AskSeen, Asked, Prompter};
 use spaces::{Space, Target, same_target};
 
 impl Machine {
-    ghost use Rattle.std.specs.Prelude.{◌≡◌, ◌<◌, ◌∷◌, IsTrue, IsSome, Some, None, is_some, true, length, not, ◌==◌, List, Option};
+    ghost use Rattle.request_machine.specs.Work.{is_waiting};
+    ghost use Rattle.std.specs.Prelude.{false, ◌≡◌, ◌<◌, ◌∷◌, IsTrue, IsSome, Some, None, is_some, true, length, not, ◌==◌, List, Option};
     ghost use Rattle.link_trait.specs.Told.{grown};
     ghost use Rattle.link_trait.specs.declared.prompts.Ask.{Ask};
     ghost use Rattle.trace_rule.specs.Settings.{Setting};
@@ -37,6 +38,7 @@ impl Machine {
             ≡ Event.Called (Call.Select space terms) (BookReply.Lead number ordinal) ∷ self.old.past }
         ensures kept { line self.new ≡ line self.old }
         ensures goes { IsTrue (goes_on (way self.old.stage) (way self.new.stage)) }
+        ensures free { is_waiting self.new.stage ≡ false }
         ensures ties { (s : Setting)
             → IsTrue (suits s self.old.past (Call.Select space terms) (BookReply.Lead number ordinal))
             → Ties s self.old → Ties s self.new }
@@ -76,6 +78,7 @@ impl Machine {
         ensures kept { line self.new ≡ line self.old }
         ensures away { IsTrue (is_away (way self.new.stage)) }
         ensures asks { is_asking self.new ≡ true }
+        ensures free { is_waiting self.new.stage ≡ false }
         ensures ties { (s : Setting) → Ties s self.old → Ties s self.new }
     {
         self.push(Event::AskedFor {
@@ -96,6 +99,7 @@ impl Machine {
     )
         requires room { length self.old.past < 256 }
         requires stage { self.old.stage ≡ Stage.Ask prompt ordinal }
+        ensures free { is_waiting self.new.stage ≡ false }
         ensures ties { (s : Setting) → Ties s self.old → Ties s self.new }
         ensures prompted { (s : Setting) (before : Option (List Ask)) → Ties s self.old
             → s.space_of prompt.space ≡ Some space.now
@@ -139,6 +143,7 @@ impl Machine {
         requires stage { self.old.stage ≡ Stage.Ask prompt ordinal }
         requires told { is_some self.old.space ≡ true }
         requires linked { IsLinked self.old }
+        ensures free { is_waiting self.new.stage ≡ false }
         ensures ties { (s : Setting) → Ties s self.old → Ties s self.new }
         ensures prompted { (s : Setting) (before : Option (List Ask)) → Ties s self.old
             → self.old.space ≡ s.space_of prompt.space
@@ -165,6 +170,8 @@ impl Machine {
         ensures past { self.new.past ≡ self.old.past }
         ensures kept { line self.new ≡ line self.old }
         ensures goes { IsTrue (goes_on (way self.old.stage) (way self.new.stage)) }
+        ensures stage { self.new.stage ≡ Stage.Answer prompt text }
+        ensures rest { self.new ≡ record self.old { stage = self.new.stage } }
         ensures ties { (s : Setting) → Ties s self.old → Ties s self.new }
     {
         self.stage = Stage::Answer(prompt, text);
@@ -178,6 +185,7 @@ impl Machine {
             ≡ Event.Called (Call.Answer prompt.number text prompt.terms) (BookReply.Given gift evicted) ∷ self.old.past }
         ensures kept { line self.new ≡ line self.old }
         ensures goes { IsTrue (goes_on (way self.old.stage) (way self.new.stage)) }
+        ensures free { is_waiting self.new.stage ≡ false }
         ensures ties { (s : Setting)
             → IsTrue (suits s self.old.past (Call.Answer prompt.number text prompt.terms)
             (BookReply.Given gift evicted))
@@ -198,7 +206,7 @@ impl Machine {
 
     /// How the request closes where it is refused: it notes what the last head carried for the target
     /// that the last reply doesn't challenge.
-    fn refused_by(&self, why: Why) -> Closing
+    pub(crate) fn refused_by(&self, why: Why) -> Closing
         ensures { result ≡ refused_by self.now why }
     {
         let challenged = challenged_told(self.is_proxied, self.code);
@@ -217,6 +225,7 @@ impl Machine {
             ≡ Event.Called (Call.Answer prompt.number 0 prompt.terms) BookReply.Cancelled ∷ self.old.past }
         ensures kept { line self.new ≡ line self.old }
         ensures goes { IsTrue (goes_on (way self.old.stage) (way self.new.stage)) }
+        ensures free { is_waiting self.new.stage ≡ false }
         ensures ties { (s : Setting)
             → IsTrue (suits s self.old.past (Call.Answer prompt.number 0 prompt.terms)
             BookReply.Cancelled)
@@ -243,6 +252,7 @@ impl Machine {
             ≡ Event.Called (Call.Lose prompt.number loss) (BookReply.Lost told) ∷ self.old.past }
         ensures kept { line self.new ≡ line self.old }
         ensures goes { IsTrue (goes_on (way self.old.stage) (way self.new.stage)) }
+        ensures free { is_waiting self.new.stage ≡ false }
         ensures ties { (s : Setting)
             → IsTrue (suits s self.old.past (Call.Lose prompt.number loss) (BookReply.Lost told))
             → Ties s self.old → Ties s self.new }
@@ -256,96 +266,6 @@ impl Machine {
         });
         self.prompt = 0;
         self.stage = Stage::Close(closing_lost(told));
-    }
-
-    /// The book made the request follow a prompt.
-    #[tactic(auto, using(crate::proofs::Following::followed_ties))]
-    pub(crate) fn followed(&mut self, target: Target, space: u32, terms: u32, number: u32)
-        requires room { length self.old.past < 256 }
-        requires stage { self.old.stage ≡ Stage.Select target space terms }
-        ensures past { self.new.past
-            ≡ Event.Called (Call.Select space terms) (BookReply.Follow number) ∷ self.old.past }
-        ensures kept { line self.new ≡ line self.old }
-        ensures goes { IsTrue (goes_on (way self.old.stage) (way self.new.stage)) }
-        ensures ties { (s : Setting)
-            → IsTrue (suits s self.old.past (Call.Select space terms) (BookReply.Follow number))
-            → Ties s self.old → Ties s self.new }
-    {
-        self.push(Event::Called {
-            call: Call::Select { space, terms },
-            reply: BookReply::Follow { prompt: number },
-        });
-        self.stage = Stage::Take(Prompt {
-            target,
-            number,
-            space,
-            terms,
-        });
-    }
-
-    /// The prompt that the request follows gave a gift.
-    pub(crate) fn taken(&mut self, prompt: Prompt, gift: Gift)
-        requires room { length self.old.past < 256 }
-        requires stage { self.old.stage ≡ Stage.Take prompt }
-        ensures past { self.new.past
-            ≡ Event.Called (Call.Take prompt.number) (BookReply.Gave gift) ∷ self.old.past }
-        ensures kept { line self.new ≡ line self.old }
-        ensures goes { IsTrue (goes_on (way self.old.stage) (way self.new.stage)) }
-        ensures ties { (s : Setting)
-            → IsTrue (suits s self.old.past (Call.Take prompt.number) (BookReply.Gave gift))
-            → Ties s self.old → Ties s self.new }
-    {
-        self.push(Event::Called {
-            call: Call::Take {
-                prompt: prompt.number,
-            },
-            reply: BookReply::Gave { gift },
-        });
-        self.hold(prompt.target, gift, prompt.terms);
-        self.stage = Stage::Go;
-    }
-
-    /// The prompt that the request follows was cancelled.
-    pub(crate) fn not_taken(&mut self, prompt: Prompt)
-        requires room { length self.old.past < 256 }
-        requires stage { self.old.stage ≡ Stage.Take prompt }
-        ensures past { self.new.past
-            ≡ Event.Called (Call.Take prompt.number) BookReply.Cancelled ∷ self.old.past }
-        ensures kept { line self.new ≡ line self.old }
-        ensures goes { IsTrue (goes_on (way self.old.stage) (way self.new.stage)) }
-        ensures ties { (s : Setting)
-            → IsTrue (suits s self.old.past (Call.Take prompt.number) BookReply.Cancelled)
-            → Ties s self.old → Ties s self.new }
-    {
-        let closing = self.refused_by(Why::Cancelled(prompt.number));
-        self.push(Event::Called {
-            call: Call::Take {
-                prompt: prompt.number,
-            },
-            reply: BookReply::Cancelled,
-        });
-        self.stage = Stage::Close(closing);
-    }
-
-    /// The prompt that the request follows was lost.
-    pub(crate) fn lost_with_it(&mut self, prompt: Prompt, loss: Loss)
-        requires room { length self.old.past < 256 }
-        requires stage { self.old.stage ≡ Stage.Take prompt }
-        ensures past { self.new.past
-            ≡ Event.Called (Call.Take prompt.number) (BookReply.Lost loss) ∷ self.old.past }
-        ensures kept { line self.new ≡ line self.old }
-        ensures goes { IsTrue (goes_on (way self.old.stage) (way self.new.stage)) }
-        ensures ties { (s : Setting)
-            → IsTrue (suits s self.old.past (Call.Take prompt.number) (BookReply.Lost loss))
-            → Ties s self.old → Ties s self.new }
-    {
-        self.push(Event::Called {
-            call: Call::Take {
-                prompt: prompt.number,
-            },
-            reply: BookReply::Lost { loss },
-        });
-        self.stage = Stage::Close(closing_lost(loss));
     }
 }
 
@@ -371,7 +291,7 @@ fn outcome_lost(loss: Loss) -> Outcome
 }
 
 /// How a request closes behind a lost prompt.
-fn closing_lost(loss: Loss) -> Closing
+pub(crate) fn closing_lost(loss: Loss) -> Closing
     ensures { result ≡ closing_by (outcome_lost loss) }
 {
     closing_by(outcome_lost(loss))

@@ -12,7 +12,8 @@ use auth_runs::Event;
 use spaces::Target;
 
 impl Machine {
-    ghost use Rattle.std.specs.Prelude.{◌≡◌, ◌∷◌, ◌<◌, IsTrue, length};
+    ghost use Rattle.request_machine.specs.Work.{is_waiting};
+    ghost use Rattle.std.specs.Prelude.{false, ◌≡◌, ◌∷◌, ◌<◌, IsTrue, length};
     ghost use Rattle.trace_rule.specs.Settings.{Setting};
     ghost use Rattle.trace_rule.specs.Traces.{suits};
     ghost use Rattle.request_machine.specs.Linked.{line, way, goes_on};
@@ -26,6 +27,7 @@ impl Machine {
         ensures past { self.new.past ≡ Event.Called Call.Begin reply ∷ self.old.past }
         ensures kept { line self.new ≡ line self.old }
         ensures goes { IsTrue (goes_on (way self.old.stage) (way self.new.stage)) }
+        ensures free { is_waiting self.new.stage ≡ false }
         ensures ties { (s : Setting) → IsTrue (suits s self.old.past Call.Begin reply)
             → Ties s self.old → Ties s self.new }
     {
@@ -46,6 +48,7 @@ impl Machine {
             ≡ Event.Called (Call.Preempt Target.Proxy) reply ∷ self.old.past }
         ensures kept { line self.new ≡ line self.old }
         ensures goes { IsTrue (goes_on (way self.old.stage) (way self.new.stage)) }
+        ensures free { is_waiting self.new.stage ≡ false }
         ensures ties { (s : Setting)
             → IsTrue (suits s self.old.past (Call.Preempt Target.Proxy) reply) → Ties s self.old
             → Ties s self.new }
@@ -72,6 +75,7 @@ impl Machine {
             ≡ Event.Called (Call.Preempt Target.Server) reply ∷ self.old.past }
         ensures kept { line self.new ≡ line self.old }
         ensures goes { IsTrue (goes_on (way self.old.stage) (way self.new.stage)) }
+        ensures free { is_waiting self.new.stage ≡ false }
         ensures ties { (s : Setting)
             → IsTrue (suits s self.old.past (Call.Preempt Target.Server) reply) → Ties s self.old
             → Ties s self.new }

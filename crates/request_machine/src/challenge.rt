@@ -10,7 +10,8 @@ use auth_runs::{Event, Outcome, Reply, Why};
 use spaces::{Target, Terms};
 
 impl Machine {
-    ghost use Rattle.std.specs.Prelude.{◌≡◌, ◌<◌, ◌≤◌, ◌∷◌, IsTrue, IfSome, Some, None, length, is_some, option_map};
+    ghost use Rattle.request_machine.specs.Work.{is_waiting};
+    ghost use Rattle.std.specs.Prelude.{false, ◌≡◌, ◌<◌, ◌≤◌, ◌∷◌, IsTrue, IfSome, Some, None, length, is_some, option_map};
     ghost use Rattle.trace_rule.specs.Settings.{Setting};
     ghost use Rattle.trace_rule.specs.Challenges.{challenged};
     ghost use Rattle.trace_rule.specs.Traces.{can_be};
@@ -33,6 +34,7 @@ impl Machine {
         ensures kept { line self.new ≡ line self.old }
         ensures away { IsTrue (is_away (way self.new.stage)) }
         ensures left { turns_left self.new < 3 }
+        ensures free { is_waiting self.new.stage ≡ false }
         ensures ties { (s : Setting) → decision_at self.old s.request reply target ≡ None
             → challenged s reply ≡ Some target → Ties s self.old → Ties s self.new }
     {
@@ -55,6 +57,7 @@ impl Machine {
         ensures kept { line self.new ≡ line self.old }
         ensures away { IsTrue (is_away (way self.new.stage)) }
         ensures left { turns_left self.new < 3 }
+        ensures free { is_waiting self.new.stage ≡ false }
         ensures ties { (s : Setting) → decision_at self.old s.request reply target
             ≡ Some (record { gift = gift; terms = None })
             → challenged s reply ≡ Some target → Ties s self.old → Ties s self.new }
@@ -77,6 +80,7 @@ impl Machine {
         ensures kept { line self.new ≡ line self.old }
         ensures away { IsTrue (is_away (way self.new.stage)) }
         ensures left { turns_left self.new < 3 }
+        ensures free { is_waiting self.new.stage ≡ false }
         ensures ties { (s : Setting) → decision_at self.old s.request reply target
             ≡ Some (record { gift = gift; terms = Some terms })
             → challenged s reply ≡ Some target → Ties s self.old → Ties s self.new }
@@ -114,6 +118,7 @@ impl Machine {
         ensures kept { line self.new ≡ line self.old }
         ensures away { IsTrue (is_away (way self.new.stage)) }
         ensures left { turns_left self.new < 3 }
+        ensures free { is_waiting self.new.stage ≡ false }
         ensures ties { (s : Setting) → is_some (decision_at self.old s.request reply target) ≡ decides
             → challenged s reply ≡ Some target → Ties s self.old → Ties s self.new }
     {
@@ -146,6 +151,7 @@ impl Machine {
         ensures kept { line self.new ≡ line self.old }
         ensures away { IsTrue (is_away (way self.new.stage)) }
         ensures left { turns_left self.new < 3 }
+        ensures free { is_waiting self.new.stage ≡ false }
         ensures ties { (s : Setting) → decision_at self.old s.request reply target ≡ decision
             → challenged s reply ≡ Some target → Ties s self.old → Ties s self.new }
     {

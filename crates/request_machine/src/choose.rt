@@ -11,7 +11,8 @@ use auth_runs::{Event, Outcome, Why};
 use spaces::{Target, same_target};
 
 impl Machine {
-    ghost use Rattle.std.specs.Prelude.{◌≡◌, ◌∷◌, ◌<◌, IsTrue, Some, None, length, true};
+    ghost use Rattle.request_machine.specs.Work.{is_waiting, work_left};
+    ghost use Rattle.std.specs.Prelude.{false, ◌≤◌, ◌≡◌, ◌∷◌, ◌<◌, IsTrue, Some, None, length, true};
     ghost use Rattle.trace_rule.specs.Settings.{Setting};
     ghost use Rattle.trace_rule.specs.Traces.{suits};
     ghost use Rattle.request_machine.specs.Chosen.{IsBest};
@@ -28,6 +29,8 @@ impl Machine {
         ensures asks { is_asking self.new ≡ true }
         ensures kept { line self.new ≡ line self.old }
         ensures goes { IsTrue (goes_on (way self.old.stage) (way self.new.stage)) }
+        ensures free { is_waiting self.new.stage ≡ false }
+        ensures less { work_left self.new ≤ work_left self.old }
         ensures ties { (s : Setting) → Ties s self.old → Ties s self.new }
     {
         let closing = Closing {
@@ -61,6 +64,7 @@ impl Machine {
             ≡ Event.Called (Call.Select space terms) (BookReply.Cached gift) ∷ self.old.past }
         ensures kept { line self.new ≡ line self.old }
         ensures goes { IsTrue (goes_on (way self.old.stage) (way self.new.stage)) }
+        ensures free { is_waiting self.new.stage ≡ false }
         ensures ties { (s : Setting)
             → IsTrue (suits s self.old.past (Call.Select space terms) (BookReply.Cached gift))
             → Ties s self.old → Ties s self.new }
@@ -88,6 +92,7 @@ impl Machine {
             ≡ Event.Called (Call.Select space terms) (BookReply.Url gift evicted) ∷ self.old.past }
         ensures kept { line self.new ≡ line self.old }
         ensures goes { IsTrue (goes_on (way self.old.stage) (way self.new.stage)) }
+        ensures free { is_waiting self.new.stage ≡ false }
         ensures ties { (s : Setting)
             → IsTrue (suits s self.old.past (Call.Select space terms) (BookReply.Url gift evicted))
             → Ties s self.old → Ties s self.new }
@@ -108,6 +113,7 @@ impl Machine {
             ≡ Event.Called (Call.Select space terms) BookReply.Default ∷ self.old.past }
         ensures kept { line self.new ≡ line self.old }
         ensures goes { IsTrue (goes_on (way self.old.stage) (way self.new.stage)) }
+        ensures free { is_waiting self.new.stage ≡ false }
         ensures ties { (s : Setting)
             → IsTrue (suits s self.old.past (Call.Select space terms) BookReply.Default)
             → Ties s self.old → Ties s self.new }
@@ -128,6 +134,7 @@ impl Machine {
             ≡ Event.Called (Call.Reject gift.space gift.ordinal) reply ∷ self.old.past }
         ensures kept { line self.new ≡ line self.old }
         ensures goes { IsTrue (goes_on (way self.old.stage) (way self.new.stage)) }
+        ensures free { is_waiting self.new.stage ≡ false }
         ensures ties { (s : Setting)
             → IsTrue (suits s self.old.past (Call.Reject gift.space gift.ordinal) reply)
             → Ties s self.old → Ties s self.new }

@@ -10,7 +10,8 @@ use auth_events::{BookReply, Call, Gift};
 use auth_runs::{Event, Outcome};
 
 impl Machine {
-    ghost use Rattle.std.specs.Prelude.{◌≡◌, ◌<◌, ◌∷◌, [], IsTrue, true, length};
+    ghost use Rattle.request_machine.specs.Work.{is_waiting};
+    ghost use Rattle.std.specs.Prelude.{false, ◌≡◌, ◌<◌, ◌∷◌, [], IsTrue, true, length};
     ghost use Rattle.trace_rule.specs.Settings.{Setting};
     ghost use Rattle.trace_rule.specs.Traces.{suits};
     ghost use Rattle.request_machine.specs.Turns.{is_asking};
@@ -27,6 +28,7 @@ impl Machine {
         ensures past { self.new.past ≡ Event.Called (Call.Note gift) reply ∷ self.old.past }
         ensures kept { line self.new ≡ line self.old }
         ensures goes { IsTrue (goes_on (way self.old.stage) (way self.new.stage)) }
+        ensures free { is_waiting self.new.stage ≡ false }
         ensures ties { (s : Setting) → IsTrue (suits s self.old.past (Call.Note gift) reply)
             → Ties s self.old → Ties s self.new }
     {
@@ -46,6 +48,7 @@ impl Machine {
         ensures past { self.new.past ≡ Event.Called Call.End reply ∷ self.old.past }
         ensures kept { line self.new ≡ line self.old }
         ensures goes { IsTrue (goes_on (way self.old.stage) (way self.new.stage)) }
+        ensures free { is_waiting self.new.stage ≡ false }
         ensures ties { (s : Setting) → IsTrue (suits s self.old.past Call.End reply)
             → Ties s self.old → Ties s self.new }
     {
@@ -65,6 +68,7 @@ impl Machine {
         ensures asks { is_asking self.new ≡ true }
         ensures kept { line self.new ≡ line self.old }
         ensures goes { IsTrue (goes_on (way self.old.stage) (way self.new.stage)) }
+        ensures free { is_waiting self.new.stage ≡ false }
         ensures ties { (s : Setting) → Ties s self.old → Ties s self.new }
     {
         self.push(Event::Ended { outcome });

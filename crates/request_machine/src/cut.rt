@@ -9,7 +9,8 @@ use auth_events::{BookReply, Call, Loss};
 use auth_runs::{Event, Outcome};
 
 impl Machine {
-    ghost use Rattle.std.specs.Prelude.{◌≡◌, ◌<◌, ◌∷◌, length, false, true, ◌==◌, IsTrue};
+    ghost use Rattle.request_machine.specs.Work.{is_waiting, work_left};
+    ghost use Rattle.std.specs.Prelude.{◌≤◌, ◌≡◌, ◌<◌, ◌∷◌, length, false, true, ◌==◌, IsTrue};
     ghost use Rattle.trace_rule.specs.Settings.{Setting};
     ghost use Rattle.request_machine.specs.Turns.{is_asking};
     ghost use Rattle.request_machine.specs.Linked.{line, way, goes_on, is_away};
@@ -26,6 +27,9 @@ impl Machine {
         ensures away { IsTrue (is_away (way self.new.stage)) }
         ensures kept { line self.new ≡ line self.old }
         ensures goes { IsTrue (goes_on (way self.old.stage) (way self.new.stage)) }
+        ensures free { is_waiting self.new.stage ≡ false }
+        ensures less { work_left self.new ≤ work_left self.old }
+        ensures rest { self.new ≡ record self.old { stage = self.new.stage } }
         ensures ties { (s : Setting) → Ties s self.old → Ties s self.new }
     {
         self.stage = Stage::Spent;
@@ -41,6 +45,8 @@ impl Machine {
             ≡ Event.Called (Call.Lose self.old.prompt Loss.Memory) (BookReply.Lost Loss.Memory) ∷ self.old.past }
         ensures kept { line self.new ≡ line self.old }
         ensures goes { IsTrue (goes_on (way self.old.stage) (way self.new.stage)) }
+        ensures free { is_waiting self.new.stage ≡ false }
+        ensures stage { self.new.stage ≡ Stage.SpentEnd }
         ensures ties { (s : Setting) → Ties s self.old → Ties s self.new }
     {
         self.push(Event::Called {
@@ -63,6 +69,8 @@ impl Machine {
         ensures past { self.new.past ≡ Event.Called Call.End BookReply.Ended ∷ self.old.past }
         ensures kept { line self.new ≡ line self.old }
         ensures goes { IsTrue (goes_on (way self.old.stage) (way self.new.stage)) }
+        ensures free { is_waiting self.new.stage ≡ false }
+        ensures stage { self.new.stage ≡ Stage.SpentOver }
         ensures ties { (s : Setting) → Ties s self.old → Ties s self.new }
     {
         self.push(Event::Called {
@@ -80,6 +88,8 @@ impl Machine {
         ensures past { self.new.past ≡ Event.Called Call.End BookReply.Ended ∷ self.old.past }
         ensures kept { line self.new ≡ line self.old }
         ensures goes { IsTrue (goes_on (way self.old.stage) (way self.new.stage)) }
+        ensures free { is_waiting self.new.stage ≡ false }
+        ensures stage { self.new.stage ≡ Stage.SpentOver }
         ensures ties { (s : Setting) → Ties s self.old → Ties s self.new }
     {
         self.push(Event::Called {
@@ -98,6 +108,8 @@ impl Machine {
         ensures asks { is_asking self.new ≡ true }
         ensures kept { line self.new ≡ line self.old }
         ensures goes { IsTrue (goes_on (way self.old.stage) (way self.new.stage)) }
+        ensures free { is_waiting self.new.stage ≡ false }
+        ensures stage { self.new.stage ≡ Stage.Over }
         ensures ties { (s : Setting) → Ties s self.old → Ties s self.new }
     {
         self.push(Event::Ended {

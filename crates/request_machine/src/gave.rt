@@ -3,12 +3,10 @@
 
 ghost use Rattle.std.specs.Prelude.{◌≡◌};
 
-use crate::holding::{Holding, NamedTerms};
-use crate::known::{with_identity, with_named, with_space};
+use crate::holding::NamedTerms;
 use crate::machine::Machine;
 use crate::stage::{Closing, Piece, Prompt, Stage};
 use auth_events::{BookReply, Call, Drawn, Loss, TermsRef};
-use auth_runs::Event;
 use auth_text::Identity;
 use spaces::{Space, Target, Terms};
 
@@ -34,80 +32,18 @@ pub enum Gave {
 }
 
 impl Machine {
-    ghost use Rattle.std.specs.Prelude.{◌≡◌, ◌<◌, ◌∷◌, [], IsTrue, length, None, option_map};
+    ghost use Rattle.std.specs.Prelude.{◌≡◌, ◌<◌, IsTrue, length, None, true, false};
     ghost use Rattle.trace_rule.specs.Settings.{Setting};
     ghost use Rattle.auth_events.specs.Pages.{fits};
     ghost use Rattle.trace_rule.specs.Traces.{suits};
-    ghost use Rattle.request_machine.specs.Changed.{holding, put_held};
-    ghost use Rattle.request_machine.specs.Gives.{IsReplyTo, IsTold, IsNumberTold, AreTermsNumbered, IsSpaceTold, IsIdentityTold, IsTermsTold};
+    ghost use Rattle.request_machine.specs.Gives.{IsReplyTo, IsTold, IsNumberTold, AreTermsNumbered};
     ghost use Rattle.request_machine.specs.Gives.{past_replied, past_drawn, past_given};
     ghost use Rattle.request_machine.specs.Linked.{line, way, goes_on, IsLinked};
     ghost use Rattle.request_machine.specs.Kept.{Ties};
     ghost use Rattle.request_machine.specs.Rooms.{HasSetting};
     ghost use Rattle.request_machine.specs.Needs.{first_left};
-
-    /// What is held for the target; then nothing is.
-    fn take(&mut self, target: Target) -> Option<Holding>
-        ensures value { result ≡ holding self.old target }
-        ensures rest { self.new ≡ put_held target None self.old }
-    {
-        match target {
-            Target::Proxy => self.take_proxy(),
-            Target::Server => self.take_server(),
-            Target::Socks => None,
-        }
-    }
-
-    /// The book told the space of what is held.
-    fn told_space(&mut self, target: Target, space: Space)
-        requires stage { self.old.stage ≡ Stage.Learn target Piece.Space }
-        ensures past { self.new.past ≡ self.old.past }
-        ensures kept { line self.new ≡ line self.old }
-        ensures goes { IsTrue (goes_on (way self.old.stage) (way self.new.stage)) }
-        ensures ties { (s : Setting) → IsSpaceTold s self.old target space
-            → Ties s self.old → Ties s self.new }
-    {
-        let before = self.take(target);
-        self.put(target, with_space(before, space));
-        self.stage = Stage::Go;
-    }
-
-    /// The book told the space of the prompt that is asked next.
-    #[tactic(auto, using(crate::proofs::Beside::spaced_ties))]
-    fn told_prompt(&mut self, space: Space)
-        ensures same { self.new ≡ record self.old { space = Some space } }
-        ensures ties { (s : Setting) → Ties s self.old → Ties s self.new }
-    {
-        self.space = Some(space);
-    }
-
-    /// The book told the identity of what is held.
-    fn told_identity(&mut self, target: Target, identity: Identity)
-        requires stage { self.old.stage ≡ Stage.Learn target Piece.Identity }
-        ensures past { self.new.past ≡ self.old.past }
-        ensures kept { line self.new ≡ line self.old }
-        ensures goes { IsTrue (goes_on (way self.old.stage) (way self.new.stage)) }
-        ensures ties { (s : Setting) → IsIdentityTold s self.old target identity
-            → Ties s self.old → Ties s self.new }
-    {
-        let before = self.take(target);
-        self.put(target, with_identity(before, identity));
-        self.stage = Stage::Go;
-    }
-
-    /// The book told the terms of what is held.
-    fn told_terms(&mut self, target: Target, named: NamedTerms)
-        requires stage { self.old.stage ≡ Stage.Learn target Piece.Terms }
-        ensures past { self.new.past ≡ self.old.past }
-        ensures kept { line self.new ≡ line self.old }
-        ensures goes { IsTrue (goes_on (way self.old.stage) (way self.new.stage)) }
-        ensures ties { (s : Setting) → IsTermsTold s self.old target named
-            → Ties s self.old → Ties s self.new }
-    {
-        let before = self.take(target);
-        self.put(target, with_named(before, named));
-        self.stage = Stage::Go;
-    }
+    ghost use Rattle.request_machine.specs.Turns.{is_asking};
+    ghost use Rattle.request_machine.specs.Work.{is_waiting, is_unspent, is_answer, stage_told, work_left};
 
     /// The book replied to one of the first calls.
     fn replied_first(&mut self, call: Call, reply: BookReply)
@@ -116,6 +52,8 @@ impl Machine {
         ensures past { self.new.past ≡ past_replied self.old self.old.stage reply }
         ensures kept { line self.new ≡ line self.old }
         ensures goes { IsTrue (goes_on (way self.old.stage) (way self.new.stage)) }
+        ensures free { length self.old.past < length self.new.past
+            → is_waiting self.new.stage ≡ false }
         ensures ties { (s : Setting) → IsTrue (suits s self.old.past call reply)
             → Ties s self.old → Ties s self.new }
     {
@@ -138,6 +76,8 @@ impl Machine {
         ensures past { self.new.past ≡ past_replied self.old self.old.stage reply }
         ensures kept { line self.new ≡ line self.old }
         ensures goes { IsTrue (goes_on (way self.old.stage) (way self.new.stage)) }
+        ensures free { length self.old.past < length self.new.past
+            → is_waiting self.new.stage ≡ false }
         ensures ties { (s : Setting) → IsTrue (suits s self.old.past (Call.Select space terms) reply)
             → Ties s self.old → Ties s self.new }
     {
@@ -160,6 +100,8 @@ impl Machine {
         ensures past { self.new.past ≡ past_replied self.old self.old.stage reply }
         ensures kept { line self.new ≡ line self.old }
         ensures goes { IsTrue (goes_on (way self.old.stage) (way self.new.stage)) }
+        ensures free { length self.old.past < length self.new.past
+            → is_waiting self.new.stage ≡ false }
         ensures ties { (s : Setting)
             → IsTrue (suits s self.old.past (Call.Answer prompt.number text prompt.terms) reply)
             → Ties s self.old → Ties s self.new }
@@ -177,6 +119,8 @@ impl Machine {
         ensures past { self.new.past ≡ past_replied self.old self.old.stage reply }
         ensures kept { line self.new ≡ line self.old }
         ensures goes { IsTrue (goes_on (way self.old.stage) (way self.new.stage)) }
+        ensures free { length self.old.past < length self.new.past
+            → is_waiting self.new.stage ≡ false }
         ensures ties { (s : Setting)
             → IsTrue (suits s self.old.past (Call.Answer prompt.number 0 prompt.terms) reply)
             → Ties s self.old → Ties s self.new }
@@ -194,6 +138,8 @@ impl Machine {
         ensures past { self.new.past ≡ past_replied self.old self.old.stage reply }
         ensures kept { line self.new ≡ line self.old }
         ensures goes { IsTrue (goes_on (way self.old.stage) (way self.new.stage)) }
+        ensures free { length self.old.past < length self.new.past
+            → is_waiting self.new.stage ≡ false }
         ensures ties { (s : Setting)
             → IsTrue (suits s self.old.past (Call.Lose prompt.number loss) reply)
             → Ties s self.old → Ties s self.new }
@@ -211,6 +157,8 @@ impl Machine {
         ensures past { self.new.past ≡ past_replied self.old self.old.stage reply }
         ensures kept { line self.new ≡ line self.old }
         ensures goes { IsTrue (goes_on (way self.old.stage) (way self.new.stage)) }
+        ensures free { length self.old.past < length self.new.past
+            → is_waiting self.new.stage ≡ false }
         ensures ties { (s : Setting) → IsTrue (suits s self.old.past (Call.Take prompt.number) reply)
             → Ties s self.old → Ties s self.new }
     {
@@ -229,6 +177,8 @@ impl Machine {
         ensures past { self.new.past ≡ past_replied self.old self.old.stage reply }
         ensures kept { line self.new ≡ line self.old }
         ensures goes { IsTrue (goes_on (way self.old.stage) (way self.new.stage)) }
+        ensures free { length self.old.past < length self.new.past
+            → is_waiting self.new.stage ≡ false }
         ensures ties { (s : Setting)
             → IsTrue (suits s self.old.past (first_left closing.proxy closing.server) reply)
             → Ties s self.old → Ties s self.new }
@@ -264,6 +214,9 @@ impl Machine {
         ensures past { self.new.past ≡ past_replied self.old self.old.stage reply }
         ensures kept { line self.new ≡ line self.old }
         ensures goes { IsTrue (goes_on (way self.old.stage) (way self.new.stage)) }
+        ensures free { length self.old.past < length self.new.past
+            → is_waiting self.new.stage ≡ false }
+        ensures unspent { is_unspent self.new.stage ≡ false }
         ensures ties { (s : Setting) → Ties s self.old → Ties s self.new }
     {
         if self.prompt == 0 {
@@ -279,6 +232,9 @@ impl Machine {
         ensures past { self.new.past ≡ past_replied self.old self.old.stage reply }
         ensures kept { line self.new ≡ line self.old }
         ensures goes { IsTrue (goes_on (way self.old.stage) (way self.new.stage)) }
+        ensures free { length self.old.past < length self.new.past
+            → is_waiting self.new.stage ≡ false }
+        ensures unspent { is_unspent self.old.stage ≡ false → is_unspent self.new.stage ≡ false }
         ensures ties { (s : Setting) → IsReplyTo s self.old self.old.stage reply
             → Ties s self.old → Ties s self.new }
     {
@@ -307,6 +263,9 @@ impl Machine {
         ensures past { self.new.past ≡ past_drawn self.old self.old.stage drawn }
         ensures kept { line self.new ≡ line self.old }
         ensures goes { IsTrue (goes_on (way self.old.stage) (way self.new.stage)) }
+        ensures free { length self.old.past < length self.new.past
+            → is_waiting self.new.stage ≡ false }
+        ensures unspent { is_unspent self.old.stage ≡ false → is_unspent self.new.stage ≡ false }
         ensures ties { (s : Setting) → Ties s self.old → Ties s self.new }
     {
         match self.stage {
@@ -321,6 +280,10 @@ impl Machine {
         ensures past { self.new.past ≡ self.old.past }
         ensures kept { line self.new ≡ line self.old }
         ensures goes { IsTrue (goes_on (way self.old.stage) (way self.new.stage)) }
+        ensures unspent { is_unspent self.old.stage ≡ false → is_unspent self.new.stage ≡ false }
+        ensures stage { IsTrue (is_answer self.old.stage Gave.NoMemory)
+            → self.new.stage ≡ stage_told self.old self.old.stage Gave.NoMemory }
+        ensures rest { self.new ≡ record self.old { stage = self.new.stage } }
         ensures ties { (s : Setting) → Ties s self.old → Ties s self.new }
     {
         match self.stage {
@@ -336,18 +299,22 @@ impl Machine {
     }
 
     /// The terms that were to be named have a number.
-    fn terms_numbered(&mut self, terms: u32)
+    fn terms_numbered(&mut self, numbers: TermsRef)
         ensures past { self.new.past ≡ self.old.past }
         ensures kept { line self.new ≡ line self.old }
         ensures goes { IsTrue (goes_on (way self.old.stage) (way self.new.stage)) }
-        ensures ties { (s : Setting) → AreTermsNumbered s self.old self.old.stage terms
+        ensures unspent { is_unspent self.old.stage ≡ false → is_unspent self.new.stage ≡ false }
+        ensures stage { IsTrue (is_answer self.old.stage (Gave.Ref numbers))
+            → self.new.stage ≡ stage_told self.old self.old.stage (Gave.Ref numbers) }
+        ensures rest { self.new ≡ record self.old { stage = self.new.stage } }
+        ensures ties { (s : Setting) → AreTermsNumbered s self.old self.old.stage numbers.terms
             → Ties s self.old → Ties s self.new }
     {
         match self.stage {
-            Stage::NameTerms(target, space) => self.terms_named(target, space, terms),
-            Stage::NameRenewal(target, gift) => self.renewal_named(target, gift, terms),
+            Stage::NameTerms(target, space) => self.terms_named(target, space, numbers.terms),
+            Stage::NameRenewal(target, gift) => self.renewal_named(target, gift, numbers.terms),
             Stage::NameLast(target, gift, closing) => {
-                self.last_named(target, gift, closing, terms);
+                self.last_named(target, gift, closing, numbers.terms);
             }
             _ => (),
         }
@@ -358,6 +325,10 @@ impl Machine {
         ensures past { self.new.past ≡ self.old.past }
         ensures kept { line self.new ≡ line self.old }
         ensures goes { IsTrue (goes_on (way self.old.stage) (way self.new.stage)) }
+        ensures unspent { is_unspent self.old.stage ≡ false → is_unspent self.new.stage ≡ false }
+        ensures stage { IsTrue (is_answer self.old.stage (Gave.Number number))
+            → self.new.stage ≡ stage_told self.old self.old.stage (Gave.Number number) }
+        ensures rest { self.new ≡ record self.old { stage = self.new.stage } }
         ensures ties { (s : Setting) → IsNumberTold s self.old self.old.stage number
             → Ties s self.old → Ties s self.new }
     {
@@ -382,13 +353,22 @@ impl Machine {
         ensures link { self.new.link ≡ self.old.link }
         ensures links { self.new.links ≡ self.old.links }
         ensures linked { IsLinked self.old → IsLinked self.new }
+        ensures stage { IsTrue (is_answer self.old.stage gave)
+            → self.new.stage ≡ stage_told self.old self.old.stage gave }
+        ensures left { is_asking self.old ≡ true → IsTrue (is_answer self.old.stage gave)
+            → work_left self.new < work_left self.old }
+        ensures nearer { length self.old.past < length self.new.past
+            → work_left self.new < work_left self.old }
+        ensures free { length self.old.past < length self.new.past
+            → is_waiting self.new.stage ≡ false }
+        ensures unspent { is_unspent self.old.stage ≡ false → is_unspent self.new.stage ≡ false }
         ensures ties { (s : Setting) → IsTold s self.old self.old.stage gave
             → Ties s self.old → Ties s self.new }
     {
         match gave {
             Gave::Reply(reply) => self.replied_to(reply),
             Gave::Number(number) => self.numbered(number),
-            Gave::Ref(numbers) => self.terms_numbered(numbers.terms),
+            Gave::Ref(numbers) => self.terms_numbered(numbers),
             Gave::Identity(identity) => match self.stage {
                 Stage::Learn(target, Piece::Identity) => self.told_identity(target, identity),
                 _ => (),

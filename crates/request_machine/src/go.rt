@@ -18,7 +18,8 @@ use spaces::{Origin, Request, Target};
 use std::alloc::Global;
 
 impl Machine {
-    ghost use Rattle.std.specs.Prelude.{◌≡◌, ◌<◌, ◌∷◌, IfSome, Some, None, length, false, true, ◌+◌, List, Option, IsTrue, is_some};
+    ghost use Rattle.request_machine.specs.Work.{is_waiting, work_left};
+    ghost use Rattle.std.specs.Prelude.{◌≤◌, ◌≡◌, ◌<◌, ◌∷◌, IfSome, Some, None, length, false, true, ◌+◌, List, Option, IsTrue, is_some};
     ghost use Rattle.trace_rule.specs.Settings.{Setting};
     ghost use Rattle.trace_rule.specs.Telling.{dials};
     ghost use Rattle.link_trait.specs.Told.{grown};
@@ -27,6 +28,7 @@ impl Machine {
     ghost use Rattle.request_machine.specs.Driven.{insides};
     ghost use Rattle.request_machine.specs.Kept.{Ties};
     ghost use Rattle.request_machine.specs.Changed.{holding};
+    ghost use Rattle.request_machine.specs.Told.{IsLacking};
     ghost use Rattle.request_machine.specs.Turns.{is_asking, turns_left};
 
     /// The next link was dialed.
@@ -64,6 +66,7 @@ impl Machine {
         ensures asks { is_asking self.new ≡ true }
         ensures kept { line self.new ≡ line self.old }
         ensures goes { IsTrue (goes_on (way self.old.stage) (way self.new.stage)) }
+        ensures free { is_waiting self.new.stage ≡ false }
         ensures ties { (s : Setting) → Ties s self.old → Ties s self.new }
     {
         let link = self.links + 1;
@@ -83,6 +86,8 @@ impl Machine {
         requires linked { IsLinked self.old }
         requires links { IsOnlyLink (line self.old) (D.opened dialer.old) }
         requires told { AreDialsOf (line self.old) (D.dials dialer.old) }
+        ensures free { is_waiting self.new.stage ≡ false }
+        ensures less { work_left self.new ≤ work_left self.old }
         ensures ties { (s : Setting) → Ties s self.old → Ties s self.new }
         ensures dials { (s : Setting) (before : Option (List Dial)) → s.request ≡ request.now
             → Ties s self.old → D.dials dialer.old ≡ grown before (dials s self.old.past)
@@ -118,6 +123,8 @@ impl Machine {
         ensures asks { is_asking self.new ≡ true }
         ensures kept { line self.new ≡ line self.old }
         ensures goes { IsTrue (goes_on (way self.old.stage) (way self.new.stage)) }
+        ensures free { is_waiting self.new.stage ≡ false }
+        ensures less { work_left self.new ≤ work_left self.old }
         ensures ties { (s : Setting) → Ties s self.old → Ties s self.new }
     {
         self.stage = Stage::Draw(Target::Proxy, nonce);
@@ -136,6 +143,8 @@ impl Machine {
         ensures asks { is_asking self.new ≡ true }
         ensures kept { line self.new ≡ line self.old }
         ensures goes { IsTrue (goes_on (way self.old.stage) (way self.new.stage)) }
+        ensures free { is_waiting self.new.stage ≡ false }
+        ensures less { work_left self.new ≤ work_left self.old }
         ensures ties { (s : Setting) → Ties s self.old → Ties s self.new }
     {
         self.stage = Stage::Draw(Target::Server, nonce);
@@ -149,6 +158,7 @@ impl Machine {
             ≡ Event.Drew Target.Proxy nonce drawn.count drawn.epoch ∷ self.old.past }
         ensures kept { line self.new ≡ line self.old }
         ensures goes { IsTrue (goes_on (way self.old.stage) (way self.new.stage)) }
+        ensures free { is_waiting self.new.stage ≡ false }
         ensures ties { (s : Setting) → Ties s self.old → Ties s self.new }
     {
         self.push(Event::Drew {
@@ -171,6 +181,7 @@ impl Machine {
             ≡ Event.Drew Target.Server nonce drawn.count drawn.epoch ∷ self.old.past }
         ensures kept { line self.new ≡ line self.old }
         ensures goes { IsTrue (goes_on (way self.old.stage) (way self.new.stage)) }
+        ensures free { is_waiting self.new.stage ≡ false }
         ensures ties { (s : Setting) → Ties s self.old → Ties s self.new }
     {
         self.push(Event::Drew {
@@ -189,11 +200,13 @@ impl Machine {
     #[tactic(auto, using(crate::proofs::Choosing::learn_ties, crate::proofs::Driving::learns))]
     pub(crate) fn learn(&mut self, target: Target, piece: Piece)
         requires stage { self.old.stage ≡ Stage.Go }
-        requires held { is_some (holding self.old target) ≡ true }
+        requires lack { IsLacking piece (holding self.old target) }
         ensures past { self.new.past ≡ self.old.past }
         ensures asks { is_asking self.new ≡ true }
         ensures kept { line self.new ≡ line self.old }
         ensures goes { IsTrue (goes_on (way self.old.stage) (way self.new.stage)) }
+        ensures free { is_waiting self.new.stage ≡ false }
+        ensures less { work_left self.new ≤ work_left self.old }
         ensures ties { (s : Setting) → Ties s self.old → Ties s self.new }
     {
         self.stage = Stage::Learn(target, piece);
@@ -203,11 +216,13 @@ impl Machine {
     /// Negotiate identity.
     pub(crate) fn lack(&mut self, target: Target, piece: Option<Piece>)
         requires stage { self.old.stage ≡ Stage.Go }
-        requires held { is_some (holding self.old target) ≡ true }
+        requires lack { IfSome piece (λ p. IsLacking p (holding self.old target)) }
         ensures past { self.new.past ≡ self.old.past }
         ensures asks { is_asking self.new ≡ true }
         ensures kept { line self.new ≡ line self.old }
         ensures goes { IsTrue (goes_on (way self.old.stage) (way self.new.stage)) }
+        ensures free { is_waiting self.new.stage ≡ false }
+        ensures less { work_left self.new ≤ work_left self.old }
         ensures ties { (s : Setting) → Ties s self.old → Ties s self.new }
     {
         match piece {
@@ -225,6 +240,8 @@ impl Machine {
         requires linked { IsLinked self.old }
         requires links { IsOnlyLink (line self.old) (D.opened dialer.old) }
         requires told { AreDialsOf (line self.old) (D.dials dialer.old) }
+        ensures free { is_waiting self.new.stage ≡ false }
+        ensures less { work_left self.new ≤ work_left self.old }
         ensures ties { (s : Setting) → s.request ≡ request.now → Ties s self.old
             → Ties s self.new }
         ensures dials { (s : Setting) (before : Option (List Dial)) → s.request ≡ request.now

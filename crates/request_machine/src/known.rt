@@ -1,8 +1,8 @@
 //! What a machine knows of what it holds, by what the book has told.
 
-ghost use Rattle.std.specs.Prelude.{◌≡◌, option_and_then, None, IfSome, OnOk, OnErr, option_map, is_some, true};
+ghost use Rattle.std.specs.Prelude.{◌≡◌, option_and_then, None, IfSome, OnOk, IfErr, option_map};
 ghost use Rattle.request_machine.specs.Heads.{kept_drew, nonce_next};
-ghost use Rattle.request_machine.specs.Told.{gift_told, bare, IsReady, nonce_told, with_space, with_identity, with_named};
+ghost use Rattle.request_machine.specs.Told.{gift_told, bare, IsReady, IsLack, IsLacking, nonce_told, with_space, with_identity, with_named};
 
 use crate::holding::{Holding, NamedTerms};
 use crate::stage::Piece;
@@ -61,7 +61,7 @@ pub(crate) fn bare(gift: Gift, terms: u32) -> Holding
 /// identity.
 pub(crate) fn readiness(held: &Option<Holding>) -> Result<(), Option<Piece>>
     ensures ready { OnOk result (IfSome held.now IsReady) }
-    ensures lack { OnErr result (is_some held.now ≡ true) }
+    ensures lack { IfErr result (λ piece. IfSome piece (λ p. IsLacking p held.now)) }
 {
     match held {
         None => Ok(()),
@@ -70,7 +70,8 @@ pub(crate) fn readiness(held: &Option<Holding>) -> Result<(), Option<Piece>>
 }
 
 pub(crate) fn readiness_of(held: &Holding) -> Result<(), Option<Piece>>
-    ensures { OnOk result (IsReady held.now) }
+    ensures ready { OnOk result (IsReady held.now) }
+    ensures lack { IfErr result (λ piece. IfSome piece (λ p. IsLack p held.now)) }
 {
     let Some(space) = &held.space else {
         return Err(Some(Piece::Space));

@@ -18,6 +18,8 @@ mod close;
 mod cut;
 mod decide;
 mod fields;
+mod finish;
+mod follow;
 mod gave;
 mod gear;
 mod go;
@@ -33,6 +35,7 @@ mod renew;
 mod send;
 mod stage;
 mod step;
+mod told;
 mod turn;
 
 pub use gave::Gave;

@@ -7,7 +7,7 @@ use crate::stage::Stage;
 use spaces::Target;
 
 impl Machine {
-    ghost use Rattle.std.specs.Prelude.{◌≡◌, IsTrue};
+    ghost use Rattle.std.specs.Prelude.{◌≡◌, IsTrue, is_some, if◌then◌else◌};
     ghost use Rattle.trace_rule.specs.Settings.{Setting};
     ghost use Rattle.request_machine.specs.Gives.{IsSpaceNamed, AreTermsNamed};
     ghost use Rattle.request_machine.specs.Linked.{line, way, goes_on};
@@ -20,6 +20,9 @@ impl Machine {
         ensures past { self.new.past ≡ self.old.past }
         ensures kept { line self.new ≡ line self.old }
         ensures goes { IsTrue (goes_on (way self.old.stage) (way self.new.stage)) }
+        ensures stage { self.new.stage ≡ (if is_some self.old.unnamed_terms
+            then Stage.NameTerms target space else Stage.Select target space 0) }
+        ensures rest { self.new ≡ record self.old { stage = self.new.stage } }
         ensures ties { (s : Setting) → IsSpaceNamed s self.old space → Ties s self.old
             → Ties s self.new }
     {
@@ -37,6 +40,8 @@ impl Machine {
         ensures past { self.new.past ≡ self.old.past }
         ensures kept { line self.new ≡ line self.old }
         ensures goes { IsTrue (goes_on (way self.old.stage) (way self.new.stage)) }
+        ensures stage { self.new.stage ≡ Stage.Select target space terms }
+        ensures rest { self.new ≡ record self.old { stage = self.new.stage } }
         ensures ties { (s : Setting) → AreTermsNamed s self.old space terms → Ties s self.old
             → Ties s self.new }
     {

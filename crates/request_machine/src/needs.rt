@@ -14,11 +14,13 @@ use auth_text::{Identity, NoMemory};
 use spaces::{Space, Target, Terms, copy_identity, copy_space, copy_terms};
 
 impl Machine {
-    ghost use Rattle.std.specs.Prelude.{◌≡◌, IfOk, IsTrue, None, OnErr, true, false};
+    ghost use Rattle.std.specs.Prelude.{◌≡◌, ◌≤◌, IfOk, IsTrue, None, OnErr, true, false};
     ghost use Rattle.trace_rule.specs.Settings.{Setting};
     ghost use Rattle.request_machine.specs.Kept.{Ties, is_regular, can_stop};
     ghost use Rattle.request_machine.specs.Linked.{line, way, goes_on};
     ghost use Rattle.request_machine.specs.Needs.{need_at, is_naming, IsWantedAt};
+    ghost use Rattle.request_machine.specs.Turns.{IsStill};
+    ghost use Rattle.request_machine.specs.Work.{work_left};
 
     /// What is asked for where no name is.
     fn plain_need(&self) -> Option<Need>
@@ -84,6 +86,8 @@ impl Machine {
         ensures still { result ≡ None → self.new ≡ self.old }
         ensures kept { line self.new ≡ line self.old }
         ensures goes { IsTrue (goes_on (way self.old.stage) (way self.new.stage)) }
+        ensures same { IsStill self.old self.new }
+        ensures less { work_left self.new ≤ work_left self.old }
         ensures ties { (s : Setting) → Ties s self.old → Ties s self.new }
         ensures wanted { (s : Setting) → Ties s self.old → IsWantedAt s self.new self.new.stage }
     {

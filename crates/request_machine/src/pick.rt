@@ -26,7 +26,8 @@ pub(crate) struct Pick {
 }
 
 impl Machine {
-    ghost use Rattle.std.specs.Prelude.{◌≡◌, IsSome, IsTrue, Some, None, IfOk, true};
+    ghost use Rattle.request_machine.specs.Work.{is_waiting, work_left};
+    ghost use Rattle.std.specs.Prelude.{false, ◌≤◌, ◌≡◌, IsSome, IsTrue, Some, None, IfOk, true};
     ghost use Rattle.spaces.specs.Sites.{site};
     ghost use Rattle.trace_rule.specs.Settings.{Setting};
     ghost use Rattle.trace_rule.specs.Holding.{last_reply};
@@ -71,6 +72,8 @@ impl Machine {
         ensures asks { is_asking self.new ≡ true }
         ensures kept { line self.new ≡ line self.old }
         ensures goes { IsTrue (goes_on (way self.old.stage) (way self.new.stage)) }
+        ensures free { is_waiting self.new.stage ≡ false }
+        ensures less { work_left self.new ≤ work_left self.old }
         ensures ties { (s : Setting) → IsPick self.old.past s.request target (Some pick)
             → Ties s self.old → Ties s self.new }
     {
@@ -88,6 +91,8 @@ impl Machine {
         ensures asks { is_asking self.new ≡ true }
         ensures kept { line self.new ≡ line self.old }
         ensures goes { IsTrue (goes_on (way self.old.stage) (way self.new.stage)) }
+        ensures free { is_waiting self.new.stage ≡ false }
+        ensures less { work_left self.new ≤ work_left self.old }
         ensures ties { (s : Setting) → s.request ≡ request.now → Ties s self.old
             → Ties s self.new }
     {

@@ -18,7 +18,8 @@ use std::alloc::Global;
 use wire_head::carried;
 
 impl Machine {
-    ghost use Rattle.std.specs.Prelude.{◌≡◌, ◌<◌, ◌∷◌, IfSome, IsTrue, None, length, List, Option};
+    ghost use Rattle.request_machine.specs.Work.{is_waiting, work_left};
+    ghost use Rattle.std.specs.Prelude.{false, ◌≤◌, ◌≡◌, ◌<◌, ◌∷◌, IfSome, IsTrue, None, length, List, Option};
     ghost use Rattle.trace_rule.specs.Settings.{Setting};
     ghost use Rattle.trace_rule.specs.Traces.{can_be};
     ghost use Rattle.trace_rule.specs.Challenges.{challenged};
@@ -79,6 +80,8 @@ impl Machine {
         requires links { IsOnlyLink (line self.old) (D.opened dialer.old) }
         requires told { AreDialsOf (line self.old) (D.dials dialer.old) }
         requires tied { IsTied self.old request.now }
+        ensures free { is_waiting self.new.stage ≡ false }
+        ensures less { work_left self.new ≤ work_left self.old }
         ensures ties { (s : Setting) → s.request ≡ request.now → Ties s self.old
             → Ties s self.new }
         ensures dials { (s : Setting) (before : Option (List Dial))
@@ -109,6 +112,7 @@ impl Machine {
         ensures kept { line self.new ≡ line self.old }
         ensures away { IsTrue (is_away (way self.new.stage)) }
         ensures left { turns_left self.new < 3 }
+        ensures free { is_waiting self.new.stage ≡ false }
         ensures ties { (s : Setting) → Ties s self.old → Ties s self.new }
     {
         self.push(Event::ReadFailed { link, count });
@@ -124,6 +128,7 @@ impl Machine {
         ensures kept { line self.new ≡ line self.old }
         ensures away { IsTrue (is_away (way self.new.stage)) }
         ensures left { turns_left self.new < 3 }
+        ensures free { is_waiting self.new.stage ≡ false }
         ensures ties { (s : Setting) → Ties s self.old → Ties s self.new }
     {
         self.push(Event::Broken { link, fault });
@@ -140,6 +145,7 @@ impl Machine {
         ensures kept { line self.new ≡ line self.old }
         ensures away { IsTrue (is_away (way self.new.stage)) }
         ensures left { turns_left self.new < 3 }
+        ensures free { is_waiting self.new.stage ≡ false }
         ensures ties { (s : Setting) → challenged s reply ≡ None → Ties s self.old
             → Ties s self.new }
     {
@@ -162,6 +168,8 @@ impl Machine {
         requires stage { self.old.stage ≡ Stage.Read link }
         requires reply { IsTrue (can_be reply) }
         requires tied { IsTied self.old request.now }
+        ensures free { is_waiting self.new.stage ≡ false }
+        ensures less { work_left self.new ≤ work_left self.old }
         ensures ties { (s : Setting) → s.request ≡ request.now → Ties s self.old
             → Ties s self.new }
         ensures dials { (s : Setting) → dials s self.new.past ≡ dials s self.old.past }

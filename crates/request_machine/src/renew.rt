@@ -26,7 +26,8 @@ pub(crate) struct Renewal {
 }
 
 impl Machine {
-    ghost use Rattle.std.specs.Prelude.{◌≡◌, ◌<◌, ◌∷◌, IsTrue, IsSome, IfOk, Some, None, length, true};
+    ghost use Rattle.request_machine.specs.Work.{is_waiting, work_left};
+    ghost use Rattle.std.specs.Prelude.{false, ◌≤◌, ◌≡◌, ◌<◌, ◌∷◌, IsTrue, IsSome, IfOk, Some, None, length, true};
     ghost use Rattle.trace_rule.specs.Holding.{last_reply};
     ghost use Rattle.request_machine.specs.Renewals.{renewal_at};
     ghost use Rattle.trace_rule.specs.Settings.{Setting};
@@ -43,6 +44,8 @@ impl Machine {
         ensures past { self.new.past ≡ self.old.past }
         ensures kept { line self.new ≡ line self.old }
         ensures goes { IsTrue (goes_on (way self.old.stage) (way self.new.stage)) }
+        ensures stage { self.new.stage ≡ Stage.Renew target gift terms }
+        ensures rest { self.new ≡ record self.old { stage = self.new.stage } }
         ensures ties { (s : Setting) → AreTermsNamed s self.old gift.space terms
             → Ties s self.old → Ties s self.new }
     {
@@ -56,6 +59,7 @@ impl Machine {
         ensures past { self.new.past ≡ Event.Called (Call.Renew gift terms) reply ∷ self.old.past }
         ensures kept { line self.new ≡ line self.old }
         ensures goes { IsTrue (goes_on (way self.old.stage) (way self.new.stage)) }
+        ensures free { is_waiting self.new.stage ≡ false }
         ensures ties { (s : Setting) → IsTrue (suits s self.old.past (Call.Renew gift terms) reply)
             → Ties s self.old → Ties s self.new }
     {
@@ -90,6 +94,8 @@ impl Machine {
         ensures nearer { turns_left self.new < turns_left self.old }
         ensures kept { line self.new ≡ line self.old }
         ensures goes { IsTrue (goes_on (way self.old.stage) (way self.new.stage)) }
+        ensures free { is_waiting self.new.stage ≡ false }
+        ensures less { work_left self.new ≤ work_left self.old }
         ensures ties { (s : Setting) → Ties s self.old → Ties s self.new }
     {
         self.stage = stage_behind(target, closing);
@@ -103,6 +109,8 @@ impl Machine {
         ensures asks { is_asking self.new ≡ true }
         ensures kept { line self.new ≡ line self.old }
         ensures goes { IsTrue (goes_on (way self.old.stage) (way self.new.stage)) }
+        ensures free { is_waiting self.new.stage ≡ false }
+        ensures less { work_left self.new ≤ work_left self.old }
         ensures ties { (s : Setting) → Ties s self.old → Ties s self.new }
     {
         self.put_terms(Some(renewal.terms));
@@ -118,6 +126,8 @@ impl Machine {
         ensures nearer { turns_left self.new < turns_left self.old }
         ensures kept { line self.new ≡ line self.old }
         ensures goes { IsTrue (goes_on (way self.old.stage) (way self.new.stage)) }
+        ensures free { is_waiting self.new.stage ≡ false }
+        ensures less { work_left self.new ≤ work_left self.old }
         ensures ties { (s : Setting) → Ties s self.old → Ties s self.new }
     {
         match self.renewal(alloc, target) {
@@ -134,6 +144,8 @@ impl Machine {
         ensures past { self.new.past ≡ self.old.past }
         ensures kept { line self.new ≡ line self.old }
         ensures goes { IsTrue (goes_on (way self.old.stage) (way self.new.stage)) }
+        ensures stage { self.new.stage ≡ Stage.RenewLast target gift terms closing }
+        ensures rest { self.new ≡ record self.old { stage = self.new.stage } }
         ensures ties { (s : Setting) → AreTermsNamed s self.old gift.space terms
             → Ties s self.old → Ties s self.new }
     {
@@ -155,6 +167,7 @@ impl Machine {
         ensures past { self.new.past ≡ Event.Called (Call.Renew gift terms) reply ∷ self.old.past }
         ensures kept { line self.new ≡ line self.old }
         ensures goes { IsTrue (goes_on (way self.old.stage) (way self.new.stage)) }
+        ensures free { is_waiting self.new.stage ≡ false }
         ensures ties { (s : Setting) → IsTrue (suits s self.old.past (Call.Renew gift terms) reply)
             → Ties s self.old → Ties s self.new }
     {

@@ -17,7 +17,8 @@ use spaces::{Request, Target};
 use std::alloc::Global;
 
 impl Machine {
-    ghost use Rattle.std.specs.Prelude.{◌≡◌, ◌<◌, ◌∷◌, IfOk, IfSome, None, length, true, false, IsTrue, List, Option};
+    ghost use Rattle.request_machine.specs.Work.{is_waiting, work_left};
+    ghost use Rattle.std.specs.Prelude.{◌≤◌, ◌≡◌, ◌<◌, ◌∷◌, IfOk, IfSome, None, length, true, false, IsTrue, List, Option};
     ghost use Rattle.trace_rule.specs.Settings.{Setting};
     ghost use Rattle.trace_rule.specs.Telling.{dials};
     ghost use Rattle.link_trait.specs.Told.{grown};
@@ -117,6 +118,8 @@ impl Machine {
         requires linked { IsLinked self.old }
         requires links { IsOnlyLink (line self.old) (D.opened dialer.old) }
         requires told { AreDialsOf (line self.old) (D.dials dialer.old) }
+        ensures free { is_waiting self.new.stage ≡ false }
+        ensures less { work_left self.new ≤ work_left self.old }
         ensures ties { (s : Setting) → s.request ≡ request.now → Ties s self.old
             → Ties s self.new }
         ensures dials { (s : Setting) (before : Option (List Dial))
@@ -151,6 +154,7 @@ impl Machine {
         ensures asks { is_asking self.new ≡ true }
         ensures kept { line self.new ≡ line self.old }
         ensures goes { IsTrue (goes_on (way self.old.stage) (way self.new.stage)) }
+        ensures free { is_waiting self.new.stage ≡ false }
         ensures ties { (s : Setting) → Ties s self.old → Ties s self.new }
     {
         self.push(Event::WriteFailed { link, count });

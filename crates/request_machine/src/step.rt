@@ -4,21 +4,25 @@
 use crate::gear::Gear;
 use crate::machine::Machine;
 use crate::need::Need;
+use crate::stage::Stage;
 use link_trait::{Dialer, Prompter, Tokens};
 use spaces::Roster;
 use std::alloc::Global;
 
 impl Machine {
-    ghost use Rattle.std.specs.Prelude.{◌≡◌, None, Some, IsSome, true, List, Option};
+    ghost use Rattle.std.specs.Prelude.{◌≡◌, ◌≤◌, ◌⊎◌, None, Some, IsSome, true, false, List, Option};
     ghost use Rattle.spaces.specs.Sites.{numbered};
     ghost use Rattle.trace_rule.specs.Settings.{Setting};
     ghost use Rattle.trace_rule.specs.Telling.{dials};
+    ghost use Rattle.trace_rule.specs.Traces.{is_spent};
     ghost use Rattle.link_trait.specs.Told.{grown};
     ghost use Rattle.link_trait.specs.declared.dialer.Dial.{Dial};
     ghost use Rattle.request_machine.specs.Driven.{insides};
     ghost use Rattle.request_machine.specs.Kept.{Ties, IsSettingOf};
     ghost use Rattle.request_machine.specs.Needs.{need_at, IsWantedAt};
     ghost use Rattle.request_machine.specs.Rooms.{HasSettingIn};
+    ghost use Rattle.request_machine.specs.Turns.{is_asking, IsStill};
+    ghost use Rattle.request_machine.specs.Work.{is_waiting, is_unspent, work_left};
     ghost use Rattle.request_machine.specs.Linked.{way, line, is_ending, of_others, IsLinked, IsOnlyLink, AreDialsOf};
 
     /// Goes on with the request up to what the book or the words must tell next, or to its end. The
@@ -51,6 +55,15 @@ impl Machine {
             → IsSettingOf s roster.now self.old.number self.old.seed → Ties s self.old
             → D.dials gear.old.dialer ≡ grown before (dials s self.old.past)
             → D.dials gear.new.dialer ≡ grown before (dials s self.new.past) }
+        ensures still { is_asking self.old ≡ true
+            → (self.new.past ≡ self.old.past) × IsStill self.old self.new }
+        ensures free { is_asking self.old ≡ false → is_waiting self.new.stage ≡ false }
+        ensures left { work_left self.new ≤ work_left self.old }
+        ensures unspent { is_unspent self.old.stage ≡ false
+            → (is_unspent self.new.stage ≡ false) ⊎ (self.new.stage ≡ Stage.Over) }
+        ensures spent { is_unspent self.old.stage ≡ false → self.new.stage ≡ Stage.Over
+            → is_spent self.new.past ≡ true }
+        ensures tokens { gear.new.tokens ≡ gear.old.tokens }
         ensures insides { insides self.new.past ≡ insides self.old.past }
     {
         let Some(request) = roster.requests.get(self.number) else {

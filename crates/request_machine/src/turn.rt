@@ -10,8 +10,10 @@ use spaces::{Request, Target};
 use std::alloc::Global;
 
 impl Machine {
-    ghost use Rattle.std.specs.Prelude.{◌≡◌, ◌<◌, None, IsTrue, is_some, true, false, List, Option};
+    ghost use Rattle.request_machine.specs.Work.{is_waiting, work_left, is_unspent};
+    ghost use Rattle.std.specs.Prelude.{◌≤◌, ◌≡◌, ◌<◌, None, IsTrue, is_some, true, false, List, Option};
     ghost use Rattle.trace_rule.specs.Settings.{Setting};
+    ghost use Rattle.trace_rule.specs.Traces.{is_spent};
     ghost use Rattle.trace_rule.specs.Telling.{dials};
     ghost use Rattle.link_trait.specs.Told.{grown};
     ghost use Rattle.link_trait.specs.declared.dialer.Dial.{Dial};
@@ -19,7 +21,7 @@ impl Machine {
     ghost use Rattle.request_machine.specs.Kept.{Ties};
     ghost use Rattle.request_machine.specs.Needs.{need_at, IsWantedAt};
     ghost use Rattle.request_machine.specs.Rooms.{HasSettingOf};
-    ghost use Rattle.request_machine.specs.Turns.{is_asking, is_going, turns_left, opened_without, IsLinkKept};
+    ghost use Rattle.request_machine.specs.Turns.{is_asking, is_going, turns_left, opened_without, IsLinkKept, IsStill};
     ghost use Rattle.request_machine.specs.Linked.{way, goes_on, is_ending, line, IsLinked, IsOnlyLink, AreDialsOf, IsDriven};
 
     /// Does what comes next, where the machine goes on by itself.
@@ -36,6 +38,10 @@ impl Machine {
         requires idle { is_asking self.old ≡ false }
         requires going { is_going self.old.stage ≡ true }
         requires tied { HasSettingOf request.now self.old }
+        ensures free { is_waiting self.new.stage ≡ false }
+        ensures less { work_left self.new ≤ work_left self.old }
+        ensures spent { is_unspent self.old.stage ≡ false → self.new.stage ≡ Stage.Over }
+        ensures told_spent { is_unspent self.old.stage ≡ false → is_spent self.new.past ≡ true }
         ensures ties { (s : Setting) → s.request ≡ request.now → Ties s self.old
             → Ties s self.new }
         ensures dials { (s : Setting) (before : Option (List Dial)) → s.request ≡ request.now
@@ -68,6 +74,8 @@ impl Machine {
         ensures kept { line self.new ≡ line self.old }
         ensures goes { IsTrue (goes_on (way self.old.stage) (way self.new.stage)) }
         ensures nearer { turns_left self.new < turns_left self.old }
+        ensures free { is_waiting self.new.stage ≡ false }
+        ensures less { work_left self.new ≤ work_left self.old }
         ensures ties { (s : Setting) → Ties s self.old → Ties s self.new }
     {
         self.stage = Stage::Go;
@@ -140,6 +148,8 @@ impl Machine {
         ensures dials { D.dials dialer.new ≡ D.dials dialer.old }
         ensures driven { IsDriven self.old self.new
             (D.opened dialer.old) (D.opened dialer.new) (D.dials dialer.new) }
+        ensures same { IsStill self.old self.new }
+        ensures less { work_left self.new ≤ work_left self.old }
         ensures ties { (s : Setting) → Ties s self.old → Ties s self.new }
     {
         let next = self.need();

@@ -1,4 +1,6 @@
-use Rattle.std.proofs.Common.{◌∷◌, sym, subst, ap, ◌∙◌}
+use Rattle.request_machine.proofs.Working.{answered_free}
+use Rattle.request_machine.specs.Work.{is_waiting}
+use Rattle.std.proofs.Common.{◌∷◌, sym, subst, ap, ◌∙◌, ◌≡◌, false}
 use Rattle.auth_runs.specs.declared.event.Event.TheVariants.{Replied}
 use Rattle.auth_runs.specs.declared.event.Outcome.TheVariants.{Answered}
 use Rattle.request_machine.specs.Renewals.{stage_answered}
@@ -13,3 +15,6 @@ returns-clause-ties c = λ s none t.
     (subst (λ r. Ties s (record c.args.self.now { past = Replied c.args.link c.args.reply ∷ c.args.self.now.past; code = c.args.reply.code; stage = r }))
     (sym (c.stage_answered-self-inside.ensures ∙ ap (λ (v : Kept). stage_answered v.rounds (record { outcome = Answered c.args.reply.code; proxy = v.noted_proxy; server = v.noted_server })) view))
     (answered_ties s c.args.self.now c.args.link c.args.reply c.requires.stage none c.requires.reply t))
+
+pub returns-clause-free : goal.returns-clause-free
+returns-clause-free c = subst (λ st. is_waiting st ≡ false) (sym c.stage_answered-self-inside.ensures) (answered_free _ _)

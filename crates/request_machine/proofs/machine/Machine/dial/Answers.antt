@@ -1,3 +1,4 @@
+use Rattle.request_machine.proofs.Working.{pushed_less, less_left}
 use Rattle.std.proofs.Common.{◌+◌, [], ◌∷◌, sym, ap, ◌∙◌, unwrap_or}
 use Rattle.spaces.specs.declared.place.Origin.{Origin}
 use Rattle.link_trait.specs.Told.{grown}
@@ -32,3 +33,11 @@ pub returns-in-NoMemory-clause-driven : goal.returns-in-NoMemory-clause-driven
 returns-in-NoMemory-clause-driven g c =
     driven_undialed c.args.self.now _ _ _ _ _ c.spend.ensures.kept c.spend.ensures.goes c.in-NoMemory.ensures.opened c.in-NoMemory.ensures.dials
     c.requires.linked c.requires.links c.requires.told
+
+pub returns-in-Link-clause-less : goal.returns-in-Link-clause-less
+returns-in-Link-clause-less g c =
+    less_left c.args.self.now c.dialed.new.self
+    (pushed_less c.args.self.now c.dialed.new.self (Dialed (c.args.self.now.links + 1)) (c.dialed.ensures.past ∙ ap (λ (v : Kept). Dialed (v.links + 1) ∷ v.past) c.put_link.ensures) c.requires.room)
+
+pub returns-in-Failed-clause-less : goal.returns-in-Failed-clause-less
+returns-in-Failed-clause-less g c = less_left c.args.self.now c.dial_failed.new.self (pushed_less c.args.self.now c.dial_failed.new.self _ c.dial_failed.ensures.past c.requires.room)

@@ -1,4 +1,6 @@
-use Rattle.std.proofs.Common.{◌∷◌, IsTrue, sym, subst, ap, ◌∙◌}
+use Rattle.request_machine.proofs.Working.{behind_free}
+use Rattle.request_machine.specs.Work.{is_waiting}
+use Rattle.std.proofs.Common.{◌∷◌, IsTrue, sym, subst, ap, ◌∙◌, ◌≡◌, false}
 use Rattle.spaces.specs.declared.site.Target.TheVariants.{Server, Proxy}
 use Rattle.auth_events.specs.declared.journal.Call.TheVariants.{Renew}
 use Rattle.auth_runs.specs.declared.event.Event.TheVariants.{Called}
@@ -25,3 +27,6 @@ returns-clause-ties c = λ s suited t.
 pub returns-clause-goes : goal.returns-clause-goes
 returns-clause-goes c =
     subst (λ st. IsTrue (goes_on (way c.args.self.now.stage) (way st))) (sym c.stage_behind-self-inside.ensures) (behind_ends (way c.args.self.now.stage) c.args.target c.args.closing)
+
+pub returns-clause-free : goal.returns-clause-free
+returns-clause-free c = subst (λ st. is_waiting st ≡ false) (sym c.stage_behind-self-inside.ensures) (behind_free c.args.target c.args.closing)

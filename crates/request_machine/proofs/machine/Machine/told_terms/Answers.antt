@@ -1,4 +1,6 @@
-use Rattle.std.proofs.Common.{None, sym, subst, ap, ◌∙◌, option_map}
+use Rattle.request_machine.proofs.Working.{terms_less}
+use Rattle.request_machine.specs.Work.{work_left}
+use Rattle.std.proofs.Common.{None, sym, subst, ap, ◌∙◌, option_map, ◌<◌}
 use Rattle.request_machine.specs.declared.stage.Stage.TheVariants.{Go}
 use Rattle.request_machine.specs.Told.{with_named}
 use Rattle.request_machine.specs.Changed.{holding, put_held}
@@ -25,3 +27,12 @@ pub returns-clause-kept : goal.returns-clause-kept
 returns-clause-kept c =
     ap (λ (v : Kept). line v) (c.self.view_is ∙ c.put.ensures ∙ ap (put_held c.args.target c.with_named.result) c.take-before.ensures.rest)
     ∙ put_line c.args.target c.with_named.result c.args.self.now
+
+pub returns-clause-less : goal.returns-clause-less
+returns-clause-less c = λ lack.
+    subst (λ (v : Kept). work_left (record v { stage = Go }) < work_left c.args.self.now)
+    (sym (c.self.view_is ∙ c.put.ensures
+    ∙ ap (put_held c.args.target c.with_named.result) c.take-before.ensures.rest
+    ∙ ap (λ h. put_held c.args.target h (put_held c.args.target None c.args.self.now)) (c.with_named.ensures ∙ ap (option_map (with_named c.args.named)) c.take-before.ensures.value)
+    ∙ put_twice c.args.target (option_map (with_named c.args.named) (holding c.args.self.now c.args.target)) c.args.self.now))
+    (terms_less c.args.self.now c.args.target c.args.named c.requires.stage lack)

@@ -1,3 +1,4 @@
+use Rattle.request_machine.proofs.Working.{pushed_less, less_left}
 use Rattle.std.proofs.Common.{sym, ap, ◌∙◌}
 use Rattle.link_trait.specs.Told.{grown}
 use Rattle.trace_rule.specs.Telling.{dials}
@@ -62,3 +63,12 @@ spent_over-requires-clause-room g c = tied_past c.args.request.now c.args.self.n
 
 pub renew_next-requires-clause-reply : goal.renew_next-requires-clause-reply
 renew_next-requires-clause-reply g c = answer_there c.args.self.now c.args.request.now c.in-NextNonce.target c.in-NextNonce.closing (sym (ap (λ (v : Kept). v.stage) c.self.view_is) ∙ c.in-NextNonce.is) (setting_tied c.args.request.now c.args.self.now c.requires.tied)
+
+pub returns-in-Ask-clause-less : goal.returns-in-Ask-clause-less
+returns-in-Ask-clause-less g c = less_left c.args.self.now c.ask_next.new.self (pushed_less c.args.self.now c.ask_next.new.self _ c.ask_next.ensures.past.1 (tied_past c.args.request.now c.args.self.now c.requires.tied))
+
+pub returns-in-End-clause-less : goal.returns-in-End-clause-less
+returns-in-End-clause-less g c = less_left c.args.self.now c.finished.new.self (pushed_less c.args.self.now c.finished.new.self _ c.finished.ensures.past (tied_past c.args.request.now c.args.self.now c.requires.tied))
+
+pub returns-in-SpentOver-clause-less : goal.returns-in-SpentOver-clause-less
+returns-in-SpentOver-clause-less g c = less_left c.args.self.now c.spent_over.new.self (pushed_less c.args.self.now c.spent_over.new.self _ c.spent_over.ensures.past (tied_past c.args.request.now c.args.self.now c.requires.tied))

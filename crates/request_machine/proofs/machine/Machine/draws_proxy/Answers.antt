@@ -1,0 +1,10 @@
+use Rattle.spaces.specs.declared.site.Target.TheVariants.{Proxy}
+use Rattle.request_machine.proofs.Working.{draw_left}
+use Rattle.request_machine.specs.Work.{work_left}
+use Rattle.request_machine.specs.Kept.{Kept}
+use Rattle.request_machine.specs.declared.stage.Stage.TheVariants.{Draw}
+use Rattle.std.proofs.Common.{◌≤◌, sym, subst}
+use Rattle.request_machine.proofs.machine.Machine.draws_proxy.Goals as goal
+
+pub returns-clause-less : goal.returns-clause-less
+returns-clause-less c = subst (λ (v : Kept). work_left (record v { stage = Draw Proxy c.args.nonce }) ≤ work_left c.args.self.now) (sym c.self.view_is) (draw_left c.args.self.now Proxy c.args.nonce c.requires.stage)
