@@ -30,9 +30,9 @@ is_unspent stage = true
 abbrev pub is_answer : Stage → Gave → Bool
 is_answer (NameSpace t) (Number n) = not (n == 0)
 is_answer (NameText p) (Number n) = not (n == 0)
-is_answer (NameTerms t space) (Ref numbers) = true
-is_answer (NameRenewal t gift) (Ref numbers) = true
-is_answer (NameLast t gift c) (Ref numbers) = true
+is_answer (NameTerms t space) (Ref numbers) = not (numbers.terms == 0)
+is_answer (NameRenewal t gift) (Ref numbers) = not (numbers.terms == 0)
+is_answer (NameLast t gift c) (Ref numbers) = not (numbers.terms == 0)
 is_answer (Learn t OfSpace) (Space space) = true
 is_answer (Learn t OfIdentity) (Identity identity) = true
 is_answer (Learn t OfTerms) (Terms terms nonce) = true
@@ -45,6 +45,13 @@ is_answer (NameLast t gift c) NoMemory = true
 is_answer (Learn t piece) NoMemory = true
 is_answer (Ask p ordinal) NoMemory = true
 is_answer stage gave = false
+
+-- a number of what was to be named, or that there was no memory for it
+abbrev pub is_of_naming : Gave → Bool
+is_of_naming (Number n) = true
+is_of_naming (Ref numbers) = true
+is_of_naming NoMemory = true
+is_of_naming gave = false
 
 -- where a request stands by it
 abbrev pub stage_told : Kept → Stage → Gave → Stage

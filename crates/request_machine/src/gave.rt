@@ -43,7 +43,7 @@ impl Machine {
     ghost use Rattle.request_machine.specs.Rooms.{HasSetting};
     ghost use Rattle.request_machine.specs.Needs.{first_left};
     ghost use Rattle.request_machine.specs.Turns.{is_asking};
-    ghost use Rattle.request_machine.specs.Work.{is_waiting, is_unspent, is_answer, stage_told, work_left};
+    ghost use Rattle.request_machine.specs.Work.{is_waiting, is_unspent, is_answer, is_of_naming, stage_told, work_left};
 
     /// The book replied to one of the first calls.
     fn replied_first(&mut self, call: Call, reply: BookReply)
@@ -275,30 +275,7 @@ impl Machine {
         }
     }
 
-    /// There was no memory to tell it.
-    fn not_told(&mut self)
-        ensures past { self.new.past ≡ self.old.past }
-        ensures kept { line self.new ≡ line self.old }
-        ensures goes { IsTrue (goes_on (way self.old.stage) (way self.new.stage)) }
-        ensures unspent { is_unspent self.old.stage ≡ false → is_unspent self.new.stage ≡ false }
-        ensures stage { IsTrue (is_answer self.old.stage Gave.NoMemory)
-            → self.new.stage ≡ stage_told self.old self.old.stage Gave.NoMemory }
-        ensures rest { self.new ≡ record self.old { stage = self.new.stage } }
-        ensures ties { (s : Setting) → Ties s self.old → Ties s self.new }
-    {
-        match self.stage {
-            Stage::Learn(_, _) => self.spend(),
-            Stage::Ask(_, _) => self.spend(),
-            Stage::NameSpace(_) => self.spend(),
-            Stage::NameTerms(_, _) => self.spend(),
-            Stage::NameText(_) => self.spend(),
-            Stage::NameRenewal(_, _) => self.spend(),
-            Stage::NameLast(_, _, _) => self.spend(),
-            _ => (),
-        }
-    }
-
-    /// The terms that were to be named have a number.
+    /// The terms that were to be named have a number, which is never 0.
     fn terms_numbered(&mut self, numbers: TermsRef)
         ensures past { self.new.past ≡ self.old.past }
         ensures kept { line self.new ≡ line self.old }
@@ -306,10 +283,15 @@ impl Machine {
         ensures unspent { is_unspent self.old.stage ≡ false → is_unspent self.new.stage ≡ false }
         ensures stage { IsTrue (is_answer self.old.stage (Gave.Ref numbers))
             → self.new.stage ≡ stage_told self.old self.old.stage (Gave.Ref numbers) }
+        ensures unanswered { is_answer self.old.stage (Gave.Ref numbers) ≡ false
+            → self.new.stage ≡ self.old.stage }
         ensures rest { self.new ≡ record self.old { stage = self.new.stage } }
         ensures ties { (s : Setting) → AreTermsNumbered s self.old self.old.stage numbers.terms
             → Ties s self.old → Ties s self.new }
     {
+        if numbers.terms == 0 {
+            return;
+        }
         match self.stage {
             Stage::NameTerms(target, space) => self.terms_named(target, space, numbers.terms),
             Stage::NameRenewal(target, gift) => self.renewal_named(target, gift, numbers.terms),
@@ -328,6 +310,8 @@ impl Machine {
         ensures unspent { is_unspent self.old.stage ≡ false → is_unspent self.new.stage ≡ false }
         ensures stage { IsTrue (is_answer self.old.stage (Gave.Number number))
             → self.new.stage ≡ stage_told self.old self.old.stage (Gave.Number number) }
+        ensures unanswered { is_answer self.old.stage (Gave.Number number) ≡ false
+            → self.new.stage ≡ self.old.stage }
         ensures rest { self.new ≡ record self.old { stage = self.new.stage } }
         ensures ties { (s : Setting) → IsNumberTold s self.old self.old.stage number
             → Ties s self.old → Ties s self.new }
@@ -355,6 +339,8 @@ impl Machine {
         ensures linked { IsLinked self.old → IsLinked self.new }
         ensures stage { IsTrue (is_answer self.old.stage gave)
             → self.new.stage ≡ stage_told self.old self.old.stage gave }
+        ensures unanswered { IsTrue (is_of_naming gave) → is_answer self.old.stage gave ≡ false
+            → self.new.stage ≡ self.old.stage }
         ensures left { is_asking self.old ≡ true → IsTrue (is_answer self.old.stage gave)
             → work_left self.new < work_left self.old }
         ensures nearer { length self.old.past < length self.new.past

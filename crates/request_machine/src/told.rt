@@ -2,6 +2,7 @@
 
 ghost use Rattle.std.specs.Prelude.{◌≡◌};
 
+use crate::gave::Gave;
 use crate::holding::{Holding, NamedTerms};
 use crate::known::{with_identity, with_named, with_space};
 use crate::machine::Machine;
@@ -10,14 +11,14 @@ use auth_text::Identity;
 use spaces::{Space, Target, Terms};
 
 impl Machine {
-    ghost use Rattle.std.specs.Prelude.{◌≡◌, ◌<◌, IsTrue, None};
+    ghost use Rattle.std.specs.Prelude.{◌≡◌, ◌<◌, IsTrue, None, false};
     ghost use Rattle.trace_rule.specs.Settings.{Setting};
     ghost use Rattle.request_machine.specs.Changed.{holding, put_held};
     ghost use Rattle.request_machine.specs.Gives.{IsSpaceTold, IsIdentityTold, IsTermsTold};
     ghost use Rattle.request_machine.specs.Linked.{line, way, goes_on};
     ghost use Rattle.request_machine.specs.Kept.{Ties};
     ghost use Rattle.request_machine.specs.Told.{IsLacking};
-    ghost use Rattle.request_machine.specs.Work.{work_left};
+    ghost use Rattle.request_machine.specs.Work.{is_answer, is_unspent, stage_told, work_left};
 
     /// What is held for the target; then nothing is.
     fn take(&mut self, target: Target) -> Option<Holding>
@@ -89,5 +90,30 @@ impl Machine {
         let before = self.take(target);
         self.put(target, with_named(before, named));
         self.stage = Stage::Go;
+    }
+
+    /// There was no memory to tell it.
+    pub(crate) fn not_told(&mut self)
+        ensures past { self.new.past ≡ self.old.past }
+        ensures kept { line self.new ≡ line self.old }
+        ensures goes { IsTrue (goes_on (way self.old.stage) (way self.new.stage)) }
+        ensures unspent { is_unspent self.old.stage ≡ false → is_unspent self.new.stage ≡ false }
+        ensures stage { IsTrue (is_answer self.old.stage Gave.NoMemory)
+            → self.new.stage ≡ stage_told self.old self.old.stage Gave.NoMemory }
+        ensures unanswered { is_answer self.old.stage Gave.NoMemory ≡ false
+            → self.new.stage ≡ self.old.stage }
+        ensures rest { self.new ≡ record self.old { stage = self.new.stage } }
+        ensures ties { (s : Setting) → Ties s self.old → Ties s self.new }
+    {
+        match self.stage {
+            Stage::Learn(_, _) => self.spend(),
+            Stage::Ask(_, _) => self.spend(),
+            Stage::NameSpace(_) => self.spend(),
+            Stage::NameTerms(_, _) => self.spend(),
+            Stage::NameText(_) => self.spend(),
+            Stage::NameRenewal(_, _) => self.spend(),
+            Stage::NameLast(_, _, _) => self.spend(),
+            _ => (),
+        }
     }
 }
