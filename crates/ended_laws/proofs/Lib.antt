@@ -1,2 +1,2 @@
-mod Waiting
-mod Taking
+pub mod Waiting
+pub mod Taking

@@ -1,0 +1,4 @@
+pub mod Traces
+pub mod Journals
+pub mod Histories
+pub mod Closed
