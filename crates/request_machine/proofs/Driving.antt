@@ -272,7 +272,7 @@ driven_read m k n link before opened dials_before dials was closed same away uno
     (driven_closed m n before dials_before (same ∙ ap line closed) (away_linked (way n.stage) link (line m) away (subst (λ w. IsLinkedOn w (line m)) (ap way was) linked)) only all))
 
 -- the user was asked
-pub driven_asked : (m n : Kept) (p : Prompt) (ordinal : ℕ) (opened : List LinkName) (dials : Option (List Dial)) → m.stage ≡ Ask p ordinal → line n ≡ record (line m) { space = None }
+pub driven_asked : (m n : Kept) (p : Prompt) (ordinal : ℕ) (opened : List LinkName) (dials : Option (List Dial)) → m.stage ≡ Ask p ordinal → line n ≡ record (line m) { space = None; given = n.given }
     → IsTrue (is_away (way n.stage)) → IsLinked m → IsOnlyLink (line m) opened → AreDialsOf (line m) dials → IsDriven m n opened opened dials
 driven_asked m n p ordinal opened dials was same away linked only all = record {
   number = ap (λ (l : Line). l.number) same;
@@ -283,7 +283,7 @@ driven_asked m n p ordinal opened dials was same away linked only all = record {
   others = refl;
 }
   where
-    at : (w : Way) → IsTrue (is_away w) → is_some m.link ≡ m.is_dialed → IsLinkedOn w (record (line m) { space = None })
+    at : (w : Way) → IsTrue (is_away w) → is_some m.link ≡ m.is_dialed → IsLinkedOn w (record (line m) { space = None; given = n.given })
     at Onward away on = (on, refl)
     at Ending away on = tt
     at Asking away on = absurd (false≢true away)

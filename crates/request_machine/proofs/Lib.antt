@@ -33,3 +33,11 @@ pub mod Finishing
 pub mod Picking
 pub mod Deciding
 pub mod NextNonces
+pub mod Hearing
+pub mod Carrying
+pub mod Writing
+pub mod Sent
+pub mod Failing
+pub mod Answering
+pub mod Turning
+pub mod Giving

@@ -15,3 +15,6 @@ pub mod Asking
 pub mod Reads
 pub mod Gives
 pub mod Work
+pub mod Carried
+pub mod Failed
+pub mod Prompted

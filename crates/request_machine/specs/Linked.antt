@@ -1,5 +1,6 @@
 -- The link of a machine: where one is open, which one it is, and what else of its request is open or was dialed.
 use Rattle.std.specs.Prelude.{ℕ, ◌≡◌, ◌==◌, ◌<◌, Bool, true, false, not, List, filter, Option, None, IfSome, is_some, unwrap_or, option_map}
+use Rattle.auth_text.specs.Login.{Login}
 use Rattle.spaces.specs.ProtectionSpaces.{ProtectionSpace}
 use Rattle.link_trait.specs.declared.links.LinkName.{LinkName}
 use Rattle.link_trait.specs.declared.dialer.Dial.{Dial}
@@ -61,13 +62,14 @@ pub record Line : Type 0 where
   pub is_dialed : Bool
   pub link : Option LinkName
   pub space : Option ProtectionSpace
+  pub given : Option Login
 
 abbrev pub line : Kept → Line
-line m = record { number = m.number; seed = m.seed; links = m.links; is_dialed = m.is_dialed; link = m.link; space = m.space }
+line m = record { number = m.number; seed = m.seed; links = m.links; is_dialed = m.is_dialed; link = m.link; space = m.space; given = m.given }
 
 -- nothing was dialed or told yet
 abbrev pub first_line : ℕ → List ℕ → Line
-first_line number seed = record { number = number; seed = seed; links = 0; is_dialed = false; link = None; space = None }
+first_line number seed = record { number = number; seed = seed; links = 0; is_dialed = false; link = None; space = None; given = None }
 
 -- on the way to a head a link is open where one was dialed, and before its reply the last one is; a space is told where the user is asked
 abbrev pub IsLinkedOn : Way → Line → Type 0

@@ -17,7 +17,7 @@ use spaces::{Space, Target, same_target};
 
 impl Machine {
     ghost use Rattle.request_machine.specs.Work.{is_waiting};
-    ghost use Rattle.std.specs.Prelude.{false, ◌≡◌, ◌<◌, ◌∷◌, IsTrue, IsSome, Some, None, is_some, true, length, not, ◌==◌, List, Option};
+    ghost use Rattle.std.specs.Prelude.{false, ◌≡◌, ◌<◌, ◌∷◌, IsTrue, IsSome, Some, None, is_some, true, length, not, ◌==◌, List, Option, ℕ};
     ghost use Rattle.link_trait.specs.Told.{grown};
     ghost use Rattle.link_trait.specs.declared.prompts.Ask.{Ask};
     ghost use Rattle.trace_rule.specs.Settings.{Setting};
@@ -26,6 +26,10 @@ impl Machine {
     ghost use Rattle.request_machine.specs.Driven.{insides};
     ghost use Rattle.request_machine.specs.Asking.{refused_by, IsAskedIn};
     ghost use Rattle.request_machine.specs.Turns.{is_asking};
+    ghost use Rattle.auth_text.specs.Login.{Login};
+    ghost use Rattle.spaces.specs.ProtectionSpaces.{ProtectionSpace};
+    ghost use Rattle.request_machine.specs.Failed.{ask_faults, TellsAskFaults};
+    ghost use Rattle.request_machine.specs.Prompted.{AreAnswered, IsAnsweredBy, IsPrompted};
     ghost use Rattle.request_machine.specs.Linked.{line, way, goes_on, is_away, IsLinked};
     ghost use Rattle.request_machine.specs.Kept.{Ties};
 
@@ -105,10 +109,18 @@ impl Machine {
             → s.space_of prompt.space ≡ Some space.now
             → P.told prompter.old ≡ grown before (prompted s self.old.past)
             → P.told prompter.new ≡ grown before (prompted s self.new.past) }
+        ensures answered { (s : Setting) (answers : ProtectionSpace → ℕ → Option Login)
+            → Ties s self.old → s.space_of prompt.space ≡ Some space.now
+            → P.answers prompter.old ≡ Some answers → AreAnswered s answers self.old.past
+            → IsAnsweredBy s answers self.new }
         ensures answers { P.answers prompter.new ≡ P.answers prompter.old }
+        ensures faults { TellsAskFaults P.sticks self.old self.new
+            (P.faults prompter.old) (P.faults prompter.new) }
+        ensures quiet { P.quiet prompter.old → P.quiet prompter.new
+            × (ask_faults self.new.past ≡ ask_faults self.old.past) }
         ensures past { IsAskedIn prompt.number self.old.past self.new.past }
         ensures insides { insides self.new.past ≡ insides self.old.past }
-        ensures kept { line self.new ≡ line self.old }
+        ensures line { line self.new ≡ record (line self.old) { given = self.new.given } }
         ensures away { IsTrue (is_away (way self.new.stage)) }
         ensures asks { is_asking self.new ≡ true }
     {
@@ -149,10 +161,18 @@ impl Machine {
             → self.old.space ≡ s.space_of prompt.space
             → P.told prompter.old ≡ grown before (prompted s self.old.past)
             → P.told prompter.new ≡ grown before (prompted s self.new.past) }
+        ensures prompts { (s : Setting) (before : Option (List Ask)) → Ties s self.old
+            → IsPrompted s before (P.answers prompter.old) self.old (P.told prompter.old)
+            → IsPrompted s before (P.answers prompter.old) self.new (P.told prompter.new) }
         ensures answers { P.answers prompter.new ≡ P.answers prompter.old }
+        ensures faults { TellsAskFaults P.sticks self.old self.new
+            (P.faults prompter.old) (P.faults prompter.new) }
+        ensures quiet { P.quiet prompter.old → P.quiet prompter.new
+            × (ask_faults self.new.past ≡ ask_faults self.old.past) }
         ensures past { IsAskedIn prompt.number self.old.past self.new.past }
         ensures insides { insides self.new.past ≡ insides self.old.past }
-        ensures line { line self.new ≡ record (line self.old) { space = None } }
+        ensures line { line self.new
+            ≡ record (line self.old) { space = None; given = self.new.given } }
         ensures away { IsTrue (is_away (way self.new.stage)) }
         ensures asks { is_asking self.new ≡ true }
     {

@@ -38,7 +38,8 @@ impl Machine {
     ghost use Rattle.trace_rule.specs.Traces.{suits};
     ghost use Rattle.request_machine.specs.Gives.{IsReplyTo, IsTold, IsNumberTold, AreTermsNumbered};
     ghost use Rattle.request_machine.specs.Gives.{past_replied, past_drawn, past_given};
-    ghost use Rattle.request_machine.specs.Linked.{line, way, goes_on, IsLinked};
+    ghost use Rattle.request_machine.specs.Linked.{line, way, goes_on, is_ending, IsLinked};
+    ghost use Rattle.request_machine.specs.Prompted.{space_given};
     ghost use Rattle.request_machine.specs.Kept.{Ties};
     ghost use Rattle.request_machine.specs.Rooms.{HasSetting};
     ghost use Rattle.request_machine.specs.Needs.{first_left};
@@ -348,6 +349,10 @@ impl Machine {
         ensures free { length self.old.past < length self.new.past
             → is_waiting self.new.stage ≡ false }
         ensures unspent { is_unspent self.old.stage ≡ false → is_unspent self.new.stage ≡ false }
+        ensures ends { is_ending (way self.old.stage) ≡ true
+            → is_ending (way self.new.stage) ≡ true }
+        ensures given { self.new.given ≡ self.old.given }
+        ensures space { self.new.space ≡ space_given self.old gave }
         ensures ties { (s : Setting) → IsTold s self.old self.old.stage gave
             → Ties s self.old → Ties s self.new }
     {

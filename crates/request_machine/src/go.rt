@@ -26,6 +26,9 @@ impl Machine {
     ghost use Rattle.link_trait.specs.declared.dialer.Dial.{Dial};
     ghost use Rattle.request_machine.specs.Linked.{line, way, goes_on, IsLinked, IsOnlyLink, AreDialsOf, IsDriven};
     ghost use Rattle.request_machine.specs.Driven.{insides};
+    ghost use Rattle.request_machine.specs.Carried.{TellsTraffic};
+    ghost use Rattle.request_machine.specs.Prompted.{IsUnprompted};
+    ghost use Rattle.request_machine.specs.Failed.{link_faults, TellsLinkFaults};
     ghost use Rattle.request_machine.specs.Kept.{Ties};
     ghost use Rattle.request_machine.specs.Changed.{holding};
     ghost use Rattle.request_machine.specs.Told.{IsLacking};
@@ -94,6 +97,14 @@ impl Machine {
             → D.dials dialer.new ≡ grown before (dials s self.new.past) }
         ensures driven { IsDriven self.old self.new
             (D.opened dialer.old) (D.opened dialer.new) (D.dials dialer.new) }
+        ensures unprompted { IsUnprompted self.old self.new }
+        ensures traffic { TellsTraffic request.now self.old self.new (D.streams dialer.old)
+            (D.traffic dialer.old) (D.traffic dialer.new) }
+        ensures streams { D.streams dialer.new ≡ D.streams dialer.old }
+        ensures faults { TellsLinkFaults D.sticks self.old self.new
+            (D.faults dialer.old) (D.faults dialer.new) }
+        ensures quiet { D.quiet dialer.old → D.quiet dialer.new
+            × (link_faults self.new.past ≡ link_faults self.old.past) }
         ensures nearer { turns_left self.new < turns_left self.old }
         ensures insides { insides self.new.past ≡ insides self.old.past }
     {
@@ -249,6 +260,14 @@ impl Machine {
             → D.dials dialer.new ≡ grown before (dials s self.new.past) }
         ensures driven { IsDriven self.old self.new
             (D.opened dialer.old) (D.opened dialer.new) (D.dials dialer.new) }
+        ensures unprompted { IsUnprompted self.old self.new }
+        ensures traffic { TellsTraffic request.now self.old self.new (D.streams dialer.old)
+            (D.traffic dialer.old) (D.traffic dialer.new) }
+        ensures streams { D.streams dialer.new ≡ D.streams dialer.old }
+        ensures faults { TellsLinkFaults D.sticks self.old self.new
+            (D.faults dialer.old) (D.faults dialer.new) }
+        ensures quiet { D.quiet dialer.old → D.quiet dialer.new
+            × (link_faults self.new.past ≡ link_faults self.old.past) }
         ensures nearer { turns_left self.new < turns_left self.old }
         ensures insides { insides self.new.past ≡ insides self.old.past }
     {

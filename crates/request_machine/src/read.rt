@@ -1,8 +1,10 @@
 //! The reply to a head, and what it asks for. A free link is closed behind each reply.
 
 ghost use Rattle.link_trait.specs.Links.{has_link};
+ghost use Rattle.connection_binding.specs.Ends.{IsReadFault, IsNoReadFault};
+ghost use Rattle.connection_binding.specs.Readings.{IsReplyRead};
 ghost use Rattle.request_machine.specs.Reads.{IsFitRead};
-ghost use Rattle.std.specs.Prelude.{◌≡◌, None, IfSome, true};
+ghost use Rattle.std.specs.Prelude.{◌≡◌, ◌≤◌, None, IfSome, true};
 ghost use Rattle.request_machine.specs.Replies.{challenged_told};
 
 use crate::close::closing_by;
@@ -19,12 +21,17 @@ use wire_head::carried;
 
 impl Machine {
     ghost use Rattle.request_machine.specs.Work.{is_waiting, work_left};
-    ghost use Rattle.std.specs.Prelude.{false, ◌≤◌, ◌≡◌, ◌<◌, ◌∷◌, IfSome, IsTrue, None, length, List, Option};
+    ghost use Rattle.std.specs.Prelude.{false, ◌≡◌, ◌⊎◌, ◌<◌, ◌≤◌, ◌∷◌, IfSome, IsTrue, None, length, List, Option};
     ghost use Rattle.trace_rule.specs.Settings.{Setting};
     ghost use Rattle.trace_rule.specs.Traces.{can_be};
     ghost use Rattle.trace_rule.specs.Challenges.{challenged};
     ghost use Rattle.trace_rule.specs.Telling.{dials};
     ghost use Rattle.link_trait.specs.Told.{grown};
+    ghost use Rattle.request_machine.specs.Carried.{TellsTraffic};
+    ghost use Rattle.request_machine.specs.Prompted.{IsUnprompted};
+    ghost use Rattle.request_machine.specs.Failed.{link_faults, TellsLinkFaults};
+    ghost use Rattle.connection_binding.specs.Ends.{IsReadFault, IsNoReadFault};
+    ghost use Rattle.connection_binding.specs.Readings.{IsReplyRead};
     ghost use Rattle.request_machine.specs.Reads.{IsFitRead};
     ghost use Rattle.link_trait.specs.declared.dialer.Dial.{Dial};
     ghost use Rattle.request_machine.specs.Driven.{insides};
@@ -41,6 +48,12 @@ impl Machine {
     ) -> ReadEnd
         requires { IsLinkOpen self.old.link (D.opened dialer.old) }
         ensures fit { IsFitRead result }
+        ensures reply { IfSome self.old.link (λ link. IsReplyRead link method
+            (D.streams dialer.old) (D.traffic dialer.old) (D.traffic dialer.new) result) }
+        ensures streams { D.streams dialer.new ≡ D.streams dialer.old }
+        ensures later { D.faults dialer.old ≤ D.faults dialer.new }
+        ensures fault { IsReadFault D.sticks (D.faults dialer.old) (D.faults dialer.new) result }
+        ensures quiet { D.quiet dialer.old → D.quiet dialer.new × IsNoReadFault result }
         ensures same { self.new ≡ self.old }
         ensures dials { D.dials dialer.new ≡ D.dials dialer.old }
         ensures opened { D.opened dialer.new ≡ D.opened dialer.old }
@@ -57,6 +70,10 @@ impl Machine {
         ensures same { self.new ≡ record self.old { link = None } }
         ensures dials { D.dials dialer.new ≡ D.dials dialer.old }
         ensures opened { D.opened dialer.new ≡ opened_without self.old.link (D.opened dialer.old) }
+        ensures traffic { D.traffic dialer.new ≡ D.traffic dialer.old }
+        ensures streams { D.streams dialer.new ≡ D.streams dialer.old }
+        ensures faults { D.faults dialer.new ≡ D.faults dialer.old }
+        ensures quiet { D.quiet dialer.old → D.quiet dialer.new }
     {
         match self.link.take() {
             Some(link) => link.spend(dialer),
@@ -89,6 +106,14 @@ impl Machine {
             → D.dials dialer.new ≡ grown before (dials s self.new.past) }
         ensures driven { IsDriven self.old self.new
             (D.opened dialer.old) (D.opened dialer.new) (D.dials dialer.new) }
+        ensures unprompted { IsUnprompted self.old self.new }
+        ensures traffic { TellsTraffic request.now self.old self.new (D.streams dialer.old)
+            (D.traffic dialer.old) (D.traffic dialer.new) }
+        ensures streams { D.streams dialer.new ≡ D.streams dialer.old }
+        ensures faults { TellsLinkFaults D.sticks self.old self.new
+            (D.faults dialer.old) (D.faults dialer.new) }
+        ensures quiet { D.quiet dialer.old → D.quiet dialer.new
+            × (link_faults self.new.past ≡ link_faults self.old.past) }
         ensures nearer { turns_left self.new < turns_left self.old }
         ensures insides { insides self.new.past ≡ insides self.old.past }
     {
@@ -173,6 +198,8 @@ impl Machine {
         ensures ties { (s : Setting) → s.request ≡ request.now → Ties s self.old
             → Ties s self.new }
         ensures dials { (s : Setting) → dials s self.new.past ≡ dials s self.old.past }
+        ensures past { (self.new.past ≡ Event.Replied link reply ∷ self.old.past)
+            ⊎ (self.new.past ≡ self.old.past) }
         ensures insides { insides self.new.past ≡ insides self.old.past }
         ensures kept { line self.new ≡ line self.old }
         ensures away { IsTrue (is_away (way self.new.stage)) }
@@ -211,6 +238,12 @@ fn read_over<D: Dialer>(
 ) -> ReadEnd
     requires { has_link link.old (D.opened dialer.old) ≡ true }
     ensures fit { IsFitRead result }
+    ensures reply { IsReplyRead link.old method
+        (D.streams dialer.old) (D.traffic dialer.old) (D.traffic dialer.new) result }
+    ensures streams { D.streams dialer.new ≡ D.streams dialer.old }
+    ensures later { D.faults dialer.old ≤ D.faults dialer.new }
+    ensures fault { IsReadFault D.sticks (D.faults dialer.old) (D.faults dialer.new) result }
+    ensures quiet { D.quiet dialer.old → D.quiet dialer.new × IsNoReadFault result }
     ensures link { link.new ≡ link.old }
     ensures dials { D.dials dialer.new ≡ D.dials dialer.old }
     ensures opened { D.opened dialer.new ≡ D.opened dialer.old }

@@ -12,22 +12,27 @@ use crate::stage::Stage;
 use auth_runs::{Event, Outcome};
 use auth_text::{Bytes, NoMemory};
 use connection_binding::SendEnd;
-use link_trait::Dialer;
+use link_trait::{Dialer, Wrote};
 use spaces::{Request, Target};
 use std::alloc::Global;
 
 impl Machine {
     ghost use Rattle.request_machine.specs.Work.{is_waiting, work_left};
-    ghost use Rattle.std.specs.Prelude.{◌≤◌, ◌≡◌, ◌<◌, ◌∷◌, IfOk, IfSome, None, length, true, false, IsTrue, List, Option};
+    ghost use Rattle.std.specs.Prelude.{◌≡◌, ◌≢◌, ◌<◌, ◌≤◌, ◌∷◌, IfOk, IfSome, None, length, true, false, IsTrue, List, Option};
     ghost use Rattle.trace_rule.specs.Settings.{Setting};
     ghost use Rattle.trace_rule.specs.Telling.{dials};
     ghost use Rattle.link_trait.specs.Told.{grown};
     ghost use Rattle.link_trait.specs.declared.dialer.Dial.{Dial};
     ghost use Rattle.request_machine.specs.Kept.{Ties, IsLinkOpen};
     ghost use Rattle.request_machine.specs.Driven.{insides};
+    ghost use Rattle.link_trait.specs.Links.{Sends};
+    ghost use Rattle.connection_binding.specs.Ends.{wrote_by, IsSendFault};
+    ghost use Rattle.request_machine.specs.Carried.{TellsTraffic};
+    ghost use Rattle.request_machine.specs.Prompted.{IsUnprompted};
+    ghost use Rattle.request_machine.specs.Failed.{link_faults, TellsLinkFaults};
     ghost use Rattle.request_machine.specs.Heads.{head_told};
     ghost use Rattle.request_machine.specs.Turns.{is_asking, turns_left};
-    ghost use Rattle.request_machine.specs.Linked.{line, way, goes_on, IsLinked, IsOnlyLink, AreDialsOf, IsDriven};
+    ghost use Rattle.request_machine.specs.Linked.{line, way, goes_on, is_ending, IsLinked, IsOnlyLink, AreDialsOf, IsDriven};
 
     /// The bytes of the next head.
     pub(crate) fn next_head(&self, alloc: Global, request: &Request) -> Result<Bytes, NoMemory>
@@ -95,6 +100,12 @@ impl Machine {
     pub(crate) fn send_bytes<D: Dialer>(&mut self, dialer: &mut D, bytes: &[u8]) -> SendEnd
         requires { IsLinkOpen self.old.link (D.opened dialer.old) }
         ensures same { self.new ≡ self.old }
+        ensures traffic { IfSome self.old.link (λ link. Sends
+            (D.traffic dialer.old) (D.traffic dialer.new) (wrote_by result) link bytes.now) }
+        ensures streams { D.streams dialer.new ≡ D.streams dialer.old }
+        ensures later { D.faults dialer.old ≤ D.faults dialer.new }
+        ensures fault { IsSendFault D.sticks (D.faults dialer.old) (D.faults dialer.new) result }
+        ensures quiet { D.quiet dialer.old → D.quiet dialer.new × (wrote_by result ≢ Wrote.Failed) }
         ensures dials { D.dials dialer.new ≡ D.dials dialer.old }
         ensures opened { D.opened dialer.new ≡ D.opened dialer.old }
     {
@@ -127,6 +138,14 @@ impl Machine {
             → D.dials dialer.new ≡ grown before (dials s self.new.past) }
         ensures driven { IsDriven self.old self.new
             (D.opened dialer.old) (D.opened dialer.new) (D.dials dialer.new) }
+        ensures unprompted { IsUnprompted self.old self.new }
+        ensures traffic { TellsTraffic request.now self.old self.new (D.streams dialer.old)
+            (D.traffic dialer.old) (D.traffic dialer.new) }
+        ensures streams { D.streams dialer.new ≡ D.streams dialer.old }
+        ensures faults { TellsLinkFaults D.sticks self.old self.new
+            (D.faults dialer.old) (D.faults dialer.new) }
+        ensures quiet { D.quiet dialer.old → D.quiet dialer.new
+            × (link_faults self.new.past ≡ link_faults self.old.past) }
         ensures nearer { turns_left self.new < turns_left self.old }
         ensures insides { insides self.new.past ≡ insides self.old.past }
     {
@@ -151,6 +170,7 @@ impl Machine {
         requires room { length self.old.past < 256 }
         requires stage { self.old.stage ≡ Stage.Read link }
         ensures past { self.new.past ≡ Event.WriteFailed link count ∷ self.old.past }
+        ensures ends { is_ending (way self.new.stage) ≡ true }
         ensures asks { is_asking self.new ≡ true }
         ensures kept { line self.new ≡ line self.old }
         ensures goes { IsTrue (goes_on (way self.old.stage) (way self.new.stage)) }

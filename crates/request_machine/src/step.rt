@@ -18,6 +18,11 @@ impl Machine {
     ghost use Rattle.link_trait.specs.Told.{grown};
     ghost use Rattle.link_trait.specs.declared.dialer.Dial.{Dial};
     ghost use Rattle.request_machine.specs.Driven.{insides};
+    ghost use Rattle.link_trait.specs.declared.dialer.Traffic.{Traffic};
+    ghost use Rattle.link_trait.specs.declared.prompts.Ask.{Ask};
+    ghost use Rattle.request_machine.specs.Carried.{IsCarried};
+    ghost use Rattle.request_machine.specs.Failed.{link_faults, ask_faults, TellsLinkFaults, TellsAskFaults};
+    ghost use Rattle.request_machine.specs.Prompted.{IsPrompted};
     ghost use Rattle.request_machine.specs.Kept.{Ties, IsSettingOf};
     ghost use Rattle.request_machine.specs.Needs.{need_at, IsWantedAt};
     ghost use Rattle.request_machine.specs.Rooms.{HasSettingIn};
@@ -65,6 +70,26 @@ impl Machine {
             → is_spent self.new.past ≡ true }
         ensures tokens { gear.new.tokens ≡ gear.old.tokens }
         ensures insides { insides self.new.past ≡ insides self.old.past }
+        ensures traffic { (s : Setting) (before : Option (List Traffic)) (more : List Traffic)
+            → IsSettingOf s roster.now self.old.number self.old.seed → Ties s self.old
+            → D.traffic gear.old.dialer ≡ grown before more
+            → IsCarried s (D.streams gear.old.dialer) before self.old more
+            → (further : List Traffic) × (D.traffic gear.new.dialer ≡ grown before further)
+            × IsCarried s (D.streams gear.old.dialer) before self.new further }
+        ensures streams { D.streams gear.new.dialer ≡ D.streams gear.old.dialer }
+        ensures faults { TellsLinkFaults D.sticks self.old self.new
+            (D.faults gear.old.dialer) (D.faults gear.new.dialer) }
+        ensures quiet { D.quiet gear.old.dialer → D.quiet gear.new.dialer
+            × (link_faults self.new.past ≡ link_faults self.old.past) }
+        ensures prompts { (s : Setting) (before : Option (List Ask))
+            → IsSettingOf s roster.now self.old.number self.old.seed → Ties s self.old
+            → IsPrompted s before (P.answers prompter.old) self.old (P.told prompter.old)
+            → IsPrompted s before (P.answers prompter.old) self.new (P.told prompter.new) }
+        ensures answers { P.answers prompter.new ≡ P.answers prompter.old }
+        ensures prompt_faults { TellsAskFaults P.sticks self.old self.new
+            (P.faults prompter.old) (P.faults prompter.new) }
+        ensures prompt_quiet { P.quiet prompter.old → P.quiet prompter.new
+            × (ask_faults self.new.past ≡ ask_faults self.old.past) }
     {
         let Some(request) = roster.requests.get(self.number) else {
             unreachable!()

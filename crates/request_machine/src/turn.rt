@@ -11,13 +11,18 @@ use std::alloc::Global;
 
 impl Machine {
     ghost use Rattle.request_machine.specs.Work.{is_waiting, work_left, is_unspent};
-    ghost use Rattle.std.specs.Prelude.{◌≤◌, ◌≡◌, ◌<◌, None, IsTrue, is_some, true, false, List, Option};
+    ghost use Rattle.std.specs.Prelude.{◌≤◌, ◌≡◌, ◌<◌, None, IsTrue, is_some, true, false, List, Option, ℕ};
     ghost use Rattle.trace_rule.specs.Settings.{Setting};
     ghost use Rattle.trace_rule.specs.Traces.{is_spent};
     ghost use Rattle.trace_rule.specs.Telling.{dials};
     ghost use Rattle.link_trait.specs.Told.{grown};
     ghost use Rattle.link_trait.specs.declared.dialer.Dial.{Dial};
     ghost use Rattle.request_machine.specs.Driven.{insides};
+    ghost use Rattle.link_trait.specs.declared.dialer.Traffic.{Traffic};
+    ghost use Rattle.link_trait.specs.declared.links.LinkName.{LinkName};
+    ghost use Rattle.request_machine.specs.Carried.{IsCarried, TellsTraffic};
+    ghost use Rattle.request_machine.specs.Failed.{link_faults, ask_faults, TellsLinkFaults, TellsAskFaults};
+    ghost use Rattle.request_machine.specs.Prompted.{TellsPrompts};
     ghost use Rattle.request_machine.specs.Kept.{Ties};
     ghost use Rattle.request_machine.specs.Needs.{need_at, IsWantedAt};
     ghost use Rattle.request_machine.specs.Rooms.{HasSettingOf};
@@ -50,6 +55,20 @@ impl Machine {
         ensures driven { IsDriven self.old self.new
             (D.opened dialer.old) (D.opened dialer.new) (D.dials dialer.new) }
         ensures insides { insides self.new.past ≡ insides self.old.past }
+        ensures traffic { TellsTraffic request.now self.old self.new (D.streams dialer.old)
+            (D.traffic dialer.old) (D.traffic dialer.new) }
+        ensures streams { D.streams dialer.new ≡ D.streams dialer.old }
+        ensures faults { TellsLinkFaults D.sticks self.old self.new
+            (D.faults dialer.old) (D.faults dialer.new) }
+        ensures quiet { D.quiet dialer.old → D.quiet dialer.new
+            × (link_faults self.new.past ≡ link_faults self.old.past) }
+        ensures prompts { TellsPrompts request.now self.old self.new (P.answers prompter.old)
+            (P.told prompter.old) (P.told prompter.new) }
+        ensures answers { P.answers prompter.new ≡ P.answers prompter.old }
+        ensures prompt_faults { TellsAskFaults P.sticks self.old self.new
+            (P.faults prompter.old) (P.faults prompter.new) }
+        ensures prompt_quiet { P.quiet prompter.old → P.quiet prompter.new
+            × (ask_faults self.new.past ≡ ask_faults self.old.past) }
         ensures nearer { turns_left self.new < turns_left self.old }
     {
         match self.stage {
@@ -85,6 +104,10 @@ impl Machine {
     pub(crate) fn drop_link<D: Dialer>(&mut self, dialer: &mut D)
         requires { IsLinkKept self.old.link (D.opened dialer.old) }
         ensures same { self.new ≡ record self.old { link = None } }
+        ensures traffic { D.traffic dialer.new ≡ D.traffic dialer.old }
+        ensures streams { D.streams dialer.new ≡ D.streams dialer.old }
+        ensures faults { D.faults dialer.new ≡ D.faults dialer.old }
+        ensures quiet { D.quiet dialer.old → D.quiet dialer.new }
         ensures dials { D.dials dialer.new ≡ D.dials dialer.old }
         ensures opened { D.opened dialer.new ≡ opened_without self.old.link (D.opened dialer.old) }
     {
@@ -113,7 +136,7 @@ impl Machine {
     }
 
     /// Closes the link where no head and no reply follows on it.
-    #[tactic(auto, using(crate::proofs::Beside::linked_ties, crate::proofs::Driving::link_kept))]
+    #[tactic(auto, using(crate::proofs::Beside::linked_ties, crate::proofs::Driving::link_kept, crate::proofs::Carrying::carried_settled))]
     pub(crate) fn settle_link<D: Dialer>(&mut self, dialer: &mut D)
         requires linked { IsLinked self.old }
         requires links { IsOnlyLink (line self.old) (D.opened dialer.old) }
@@ -122,6 +145,13 @@ impl Machine {
         ensures past { self.new.past ≡ self.old.past }
         ensures same { self.new ≡ record self.old { link = self.new.link } }
         ensures left { turns_left self.new ≡ turns_left self.old }
+        ensures traffic { D.traffic dialer.new ≡ D.traffic dialer.old }
+        ensures streams { D.streams dialer.new ≡ D.streams dialer.old }
+        ensures faults { D.faults dialer.new ≡ D.faults dialer.old }
+        ensures quiet { D.quiet dialer.old → D.quiet dialer.new }
+        ensures carried { (s : Setting) (streams : Option (LinkName → List ℕ))
+            (before : Option (List Traffic)) (more : List Traffic)
+            → IsCarried s streams before self.old more → IsCarried s streams before self.new more }
         ensures dials { D.dials dialer.new ≡ D.dials dialer.old }
         ensures driven { IsDriven self.old self.new
             (D.opened dialer.old) (D.opened dialer.new) (D.dials dialer.new) }
@@ -145,6 +175,15 @@ impl Machine {
         ensures none { is_ending (way self.new.stage) ≡ true → self.new.link ≡ None }
         ensures past { self.new.past ≡ self.old.past }
         ensures left { result ≡ None → turns_left self.new ≡ turns_left self.old }
+        ensures given { self.new.given ≡ self.old.given }
+        ensures space { self.new.space ≡ self.old.space }
+        ensures traffic { D.traffic dialer.new ≡ D.traffic dialer.old }
+        ensures streams { D.streams dialer.new ≡ D.streams dialer.old }
+        ensures faults { D.faults dialer.new ≡ D.faults dialer.old }
+        ensures quiet { D.quiet dialer.old → D.quiet dialer.new }
+        ensures carried { (s : Setting) (streams : Option (LinkName → List ℕ))
+            (before : Option (List Traffic)) (more : List Traffic)
+            → IsCarried s streams before self.old more → IsCarried s streams before self.new more }
         ensures dials { D.dials dialer.new ≡ D.dials dialer.old }
         ensures driven { IsDriven self.old self.new
             (D.opened dialer.old) (D.opened dialer.new) (D.dials dialer.new) }

@@ -4,6 +4,9 @@ use Rattle.request_machine.proofs.Rooms.{tied_room}
 use Rattle.request_machine.proofs.Working.{longer_less, no_reply, no_draw, number_less, ref_less, untold_less, spaced_less, asked_space}
 use Rattle.std.proofs.lemmas.Bool.{false≢true}
 use Rattle.std.proofs.Common.{sym, ◌∙◌, ◌<◌, IsTrue, ap, subst}
+use Rattle.request_machine.specs.Linked.{Line, way}
+use Rattle.request_machine.specs.Prompted.{space_given}
+use Rattle.request_machine.proofs.Carrying.{goes_ends}
 use Rattle.request_machine.proofs.Driving.{linked_on}
 use Rattle.request_machine.proofs.machine.Machine.gave.Goals as goal
 
@@ -53,3 +56,48 @@ pub returns-in-Ask-clause-left : goal.returns-in-Ask-clause-left
 returns-in-Ask-clause-left c = λ asks is.
     subst (λ v. work_left v < work_left c.args.self.now) (sym c.told_prompt.ensures.same)
     (spaced_less c.args.self.now c.in-Space.space (asked_space c.args.self.now _ _ (sym (ap (λ (v : Kept). v.stage) c.self-in-Space.view_is) ∙ c.in-Ask.is) asks))
+
+pub returns-in-Reply-clause-ends : goal.returns-in-Reply-clause-ends
+returns-in-Reply-clause-ends c = goes_ends (way c.args.self.now.stage) (way c.replied_to.new.self.stage) c.replied_to.ensures.goes
+
+pub returns-in-Reply-clause-given : goal.returns-in-Reply-clause-given
+returns-in-Reply-clause-given c = ap (λ (l : Line). l.given) c.replied_to.ensures.kept
+
+pub returns-in-Reply-clause-space : goal.returns-in-Reply-clause-space
+returns-in-Reply-clause-space c = ap (λ (l : Line). l.space) c.replied_to.ensures.kept ∙ sym (ap (space_given c.args.self.now) c.in-Reply.is)
+
+pub returns-in-Number-clause-ends : goal.returns-in-Number-clause-ends
+returns-in-Number-clause-ends c = goes_ends (way c.args.self.now.stage) (way c.numbered.new.self.stage) c.numbered.ensures.goes
+
+pub returns-in-Number-clause-given : goal.returns-in-Number-clause-given
+returns-in-Number-clause-given c = ap (λ (l : Line). l.given) c.numbered.ensures.kept
+
+pub returns-in-Number-clause-space : goal.returns-in-Number-clause-space
+returns-in-Number-clause-space c = ap (λ (l : Line). l.space) c.numbered.ensures.kept ∙ sym (ap (space_given c.args.self.now) c.in-Number.is)
+
+pub returns-in-Ref-clause-ends : goal.returns-in-Ref-clause-ends
+returns-in-Ref-clause-ends c = goes_ends (way c.args.self.now.stage) (way c.terms_numbered.new.self.stage) c.terms_numbered.ensures.goes
+
+pub returns-in-Ref-clause-given : goal.returns-in-Ref-clause-given
+returns-in-Ref-clause-given c = ap (λ (l : Line). l.given) c.terms_numbered.ensures.kept
+
+pub returns-in-Ref-clause-space : goal.returns-in-Ref-clause-space
+returns-in-Ref-clause-space c = ap (λ (l : Line). l.space) c.terms_numbered.ensures.kept ∙ sym (ap (space_given c.args.self.now) c.in-Ref.is)
+
+pub returns-in-Drawn-clause-ends : goal.returns-in-Drawn-clause-ends
+returns-in-Drawn-clause-ends c = goes_ends (way c.args.self.now.stage) (way c.drew.new.self.stage) c.drew.ensures.goes
+
+pub returns-in-Drawn-clause-given : goal.returns-in-Drawn-clause-given
+returns-in-Drawn-clause-given c = ap (λ (l : Line). l.given) c.drew.ensures.kept
+
+pub returns-in-Drawn-clause-space : goal.returns-in-Drawn-clause-space
+returns-in-Drawn-clause-space c = ap (λ (l : Line). l.space) c.drew.ensures.kept ∙ sym (ap (space_given c.args.self.now) c.in-Drawn.is)
+
+pub returns-in-NoMemory-clause-ends : goal.returns-in-NoMemory-clause-ends
+returns-in-NoMemory-clause-ends c = goes_ends (way c.args.self.now.stage) (way c.not_told.new.self.stage) c.not_told.ensures.goes
+
+pub returns-in-NoMemory-clause-given : goal.returns-in-NoMemory-clause-given
+returns-in-NoMemory-clause-given c = ap (λ (l : Line). l.given) c.not_told.ensures.kept
+
+pub returns-in-NoMemory-clause-space : goal.returns-in-NoMemory-clause-space
+returns-in-NoMemory-clause-space c = ap (λ (l : Line). l.space) c.not_told.ensures.kept ∙ sym (ap (space_given c.args.self.now) c.in-NoMemory.is)

@@ -3,6 +3,9 @@ use Rattle.trace_rule.specs.Settings.{Setting}
 use Rattle.request_machine.specs.Kept.{Ties}
 use Rattle.request_machine.specs.Turns.{turns_left}
 use Rattle.request_machine.specs.Driven.{insides, TellsDials}
+use Rattle.request_machine.specs.Carried.{TellsTraffic}
+use Rattle.request_machine.specs.Failed.{link_faults, ask_faults, TellsLinkFaults, TellsAskFaults}
+use Rattle.request_machine.specs.Prompted.{TellsPrompts}
 use Rattle.request_machine.specs.Linked.{IsDriven}
 use Rattle.request_machine.specs.Work.{work_left}
 use Rattle.request_machine.proofs.Stepping.{IsUnderWay}
@@ -16,6 +19,14 @@ invariant-loop-need g l = record {
   tokens : l.gear.tokens ≡ l.fn.gear.tokens;
   less : work_left l.self ≤ work_left l.fn.self;
   insides : insides l.self.past ≡ insides l.fn.self.past;
+  traffic : TellsTraffic l.request l.fn.self l.self (g.D.Dialer.streams l.fn.gear.dialer) (g.D.Dialer.traffic l.fn.gear.dialer) (g.D.Dialer.traffic l.gear.dialer);
+  streams : g.D.Dialer.streams l.gear.dialer ≡ g.D.Dialer.streams l.fn.gear.dialer;
+  faults : TellsLinkFaults g.D.Dialer.sticks l.fn.self l.self (g.D.Dialer.faults l.fn.gear.dialer) (g.D.Dialer.faults l.gear.dialer);
+  quiet : g.D.Dialer.quiet l.fn.gear.dialer → g.D.Dialer.quiet l.gear.dialer × (link_faults l.self.past ≡ link_faults l.fn.self.past);
+  prompts : TellsPrompts l.request l.fn.self l.self (g.P.Prompter.answers l.fn.prompter) (g.P.Prompter.told l.fn.prompter) (g.P.Prompter.told l.prompter);
+  answers : g.P.Prompter.answers l.prompter ≡ g.P.Prompter.answers l.fn.prompter;
+  prompt_faults : TellsAskFaults g.P.Prompter.sticks l.fn.self l.self (g.P.Prompter.faults l.fn.prompter) (g.P.Prompter.faults l.prompter);
+  prompt_quiet : g.P.Prompter.quiet l.fn.prompter → g.P.Prompter.quiet l.prompter × (ask_faults l.self.past ≡ ask_faults l.fn.self.past);
   dials : TellsDials l.request l.fn.self l.self (g.D.Dialer.dials l.fn.gear.dialer) (g.D.Dialer.dials l.gear.dialer);
 }
 

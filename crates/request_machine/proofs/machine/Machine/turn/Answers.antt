@@ -1,8 +1,15 @@
 use Rattle.request_machine.proofs.Working.{pushed_less, less_left}
-use Rattle.std.proofs.Common.{sym, ap, ◌∙◌}
+use Rattle.std.proofs.Common.{sym, ap, ◌∙◌, refl}
 use Rattle.link_trait.specs.Told.{grown}
 use Rattle.trace_rule.specs.Telling.{dials}
 use Rattle.request_machine.specs.Kept.{Kept}
+use Rattle.auth_runs.specs.declared.event.Event.TheVariants.{Ended}
+use Rattle.auth_runs.specs.declared.event.Outcome.TheVariants.{NoMemory}
+use Rattle.request_machine.specs.Failed.{link_faults}
+use Rattle.request_machine.proofs.Answering.{prompts_unprompted, unprompted_event, unprompted_faults, unprompted_line}
+use Rattle.request_machine.proofs.Carrying.{tells_asked, tells_same}
+use Rattle.request_machine.proofs.Failing.{tells_ask_still, tells_link_still}
+use Rattle.request_machine.proofs.Sent.{tells_finished, tells_spent_over}
 use Rattle.request_machine.proofs.Driving.{driven_same, driven_asked}
 use Rattle.request_machine.proofs.Rooms.{tied_go, tied_read, tied_past, setting_tied}
 use Rattle.request_machine.proofs.NextNonces.{answer_there}
@@ -72,3 +79,123 @@ returns-in-End-clause-less g c = less_left c.args.self.now c.finished.new.self (
 
 pub returns-in-SpentOver-clause-less : goal.returns-in-SpentOver-clause-less
 returns-in-SpentOver-clause-less g c = less_left c.args.self.now c.spent_over.new.self (pushed_less c.args.self.now c.spent_over.new.self _ c.spent_over.ensures.past (tied_past c.args.request.now c.args.self.now c.requires.tied))
+
+pub returns-in-Go-clause-prompts : goal.returns-in-Go-clause-prompts
+returns-in-Go-clause-prompts g c = prompts_unprompted c.args.request.now c.args.self.now c.go.new.self _ _ _ c.go.ensures.unprompted refl
+
+pub returns-in-Go-clause-prompt_faults : goal.returns-in-Go-clause-prompt_faults
+returns-in-Go-clause-prompt_faults g c = tells_ask_still g.P.Prompter.sticks c.args.self.now c.go.new.self _ _ (unprompted_faults c.args.self.now c.go.new.self c.go.ensures.unprompted) refl
+
+pub returns-in-Go-clause-prompt_quiet : goal.returns-in-Go-clause-prompt_quiet
+returns-in-Go-clause-prompt_quiet g c = λ quiet. (quiet, unprompted_faults c.args.self.now c.go.new.self c.go.ensures.unprompted)
+
+pub returns-in-Read-clause-prompts : goal.returns-in-Read-clause-prompts
+returns-in-Read-clause-prompts g c = prompts_unprompted c.args.request.now c.args.self.now c.read.new.self _ _ _ c.read.ensures.unprompted refl
+
+pub returns-in-Read-clause-prompt_faults : goal.returns-in-Read-clause-prompt_faults
+returns-in-Read-clause-prompt_faults g c = tells_ask_still g.P.Prompter.sticks c.args.self.now c.read.new.self _ _ (unprompted_faults c.args.self.now c.read.new.self c.read.ensures.unprompted) refl
+
+pub returns-in-Read-clause-prompt_quiet : goal.returns-in-Read-clause-prompt_quiet
+returns-in-Read-clause-prompt_quiet g c = λ quiet. (quiet, unprompted_faults c.args.self.now c.read.new.self c.read.ensures.unprompted)
+
+pub returns-in-Learn-clause-traffic : goal.returns-in-Learn-clause-traffic
+returns-in-Learn-clause-traffic g c = tells_same c.args.request.now c.args.self.now c.resume.new.self _ _ _ c.resume.ensures.past c.resume.ensures.kept c.resume.ensures.goes refl
+
+pub returns-in-Learn-clause-faults : goal.returns-in-Learn-clause-faults
+returns-in-Learn-clause-faults g c = tells_link_still g.D.Dialer.sticks c.args.self.now c.resume.new.self _ _ (ap link_faults c.resume.ensures.past) refl
+
+pub returns-in-Learn-clause-quiet : goal.returns-in-Learn-clause-quiet
+returns-in-Learn-clause-quiet g c = λ quiet. (quiet, ap link_faults c.resume.ensures.past)
+
+pub returns-in-Learn-clause-prompts : goal.returns-in-Learn-clause-prompts
+returns-in-Learn-clause-prompts g c = prompts_unprompted c.args.request.now c.args.self.now c.resume.new.self _ _ _ (unprompted_line c.args.self.now c.resume.new.self c.resume.ensures.past c.resume.ensures.kept) refl
+
+pub returns-in-Learn-clause-prompt_faults : goal.returns-in-Learn-clause-prompt_faults
+returns-in-Learn-clause-prompt_faults g c = tells_ask_still g.P.Prompter.sticks c.args.self.now c.resume.new.self _ _ (unprompted_faults c.args.self.now c.resume.new.self (unprompted_line c.args.self.now c.resume.new.self c.resume.ensures.past c.resume.ensures.kept)) refl
+
+pub returns-in-Learn-clause-prompt_quiet : goal.returns-in-Learn-clause-prompt_quiet
+returns-in-Learn-clause-prompt_quiet g c = λ quiet. (quiet, unprompted_faults c.args.self.now c.resume.new.self (unprompted_line c.args.self.now c.resume.new.self c.resume.ensures.past c.resume.ensures.kept))
+
+pub returns-in-Choose-clause-traffic : goal.returns-in-Choose-clause-traffic
+returns-in-Choose-clause-traffic g c = tells_same c.args.request.now c.args.self.now c.choose.new.self _ _ _ c.choose.ensures.past c.choose.ensures.kept c.choose.ensures.goes refl
+
+pub returns-in-Choose-clause-faults : goal.returns-in-Choose-clause-faults
+returns-in-Choose-clause-faults g c = tells_link_still g.D.Dialer.sticks c.args.self.now c.choose.new.self _ _ (ap link_faults c.choose.ensures.past) refl
+
+pub returns-in-Choose-clause-quiet : goal.returns-in-Choose-clause-quiet
+returns-in-Choose-clause-quiet g c = λ quiet. (quiet, ap link_faults c.choose.ensures.past)
+
+pub returns-in-Choose-clause-prompts : goal.returns-in-Choose-clause-prompts
+returns-in-Choose-clause-prompts g c = prompts_unprompted c.args.request.now c.args.self.now c.choose.new.self _ _ _ (unprompted_line c.args.self.now c.choose.new.self c.choose.ensures.past c.choose.ensures.kept) refl
+
+pub returns-in-Choose-clause-prompt_faults : goal.returns-in-Choose-clause-prompt_faults
+returns-in-Choose-clause-prompt_faults g c = tells_ask_still g.P.Prompter.sticks c.args.self.now c.choose.new.self _ _ (unprompted_faults c.args.self.now c.choose.new.self (unprompted_line c.args.self.now c.choose.new.self c.choose.ensures.past c.choose.ensures.kept)) refl
+
+pub returns-in-Choose-clause-prompt_quiet : goal.returns-in-Choose-clause-prompt_quiet
+returns-in-Choose-clause-prompt_quiet g c = λ quiet. (quiet, unprompted_faults c.args.self.now c.choose.new.self (unprompted_line c.args.self.now c.choose.new.self c.choose.ensures.past c.choose.ensures.kept))
+
+pub returns-in-NextNonce-clause-traffic : goal.returns-in-NextNonce-clause-traffic
+returns-in-NextNonce-clause-traffic g c = tells_same c.args.request.now c.args.self.now c.renew_next.new.self _ _ _ c.renew_next.ensures.past c.renew_next.ensures.kept c.renew_next.ensures.goes refl
+
+pub returns-in-NextNonce-clause-faults : goal.returns-in-NextNonce-clause-faults
+returns-in-NextNonce-clause-faults g c = tells_link_still g.D.Dialer.sticks c.args.self.now c.renew_next.new.self _ _ (ap link_faults c.renew_next.ensures.past) refl
+
+pub returns-in-NextNonce-clause-quiet : goal.returns-in-NextNonce-clause-quiet
+returns-in-NextNonce-clause-quiet g c = λ quiet. (quiet, ap link_faults c.renew_next.ensures.past)
+
+pub returns-in-NextNonce-clause-prompts : goal.returns-in-NextNonce-clause-prompts
+returns-in-NextNonce-clause-prompts g c = prompts_unprompted c.args.request.now c.args.self.now c.renew_next.new.self _ _ _ (unprompted_line c.args.self.now c.renew_next.new.self c.renew_next.ensures.past c.renew_next.ensures.kept) refl
+
+pub returns-in-NextNonce-clause-prompt_faults : goal.returns-in-NextNonce-clause-prompt_faults
+returns-in-NextNonce-clause-prompt_faults g c = tells_ask_still g.P.Prompter.sticks c.args.self.now c.renew_next.new.self _ _ (unprompted_faults c.args.self.now c.renew_next.new.self (unprompted_line c.args.self.now c.renew_next.new.self c.renew_next.ensures.past c.renew_next.ensures.kept)) refl
+
+pub returns-in-NextNonce-clause-prompt_quiet : goal.returns-in-NextNonce-clause-prompt_quiet
+returns-in-NextNonce-clause-prompt_quiet g c = λ quiet. (quiet, unprompted_faults c.args.self.now c.renew_next.new.self (unprompted_line c.args.self.now c.renew_next.new.self c.renew_next.ensures.past c.renew_next.ensures.kept))
+
+pub returns-in-End-clause-traffic : goal.returns-in-End-clause-traffic
+returns-in-End-clause-traffic g c = tells_finished c.args.request.now c.args.self.now c.finished.new.self c.in-End.outcome _ _ (sym (ap (λ (v : Kept). v.stage) c.self.view_is) ∙ c.in-End.is) c.finished.ensures.past c.finished.ensures.goes c.finished.ensures.kept
+
+pub returns-in-End-clause-faults : goal.returns-in-End-clause-faults
+returns-in-End-clause-faults g c = tells_link_still g.D.Dialer.sticks c.args.self.now c.finished.new.self _ _ (ap link_faults c.finished.ensures.past) refl
+
+pub returns-in-End-clause-quiet : goal.returns-in-End-clause-quiet
+returns-in-End-clause-quiet g c = λ quiet. (quiet, ap link_faults c.finished.ensures.past)
+
+pub returns-in-End-clause-prompts : goal.returns-in-End-clause-prompts
+returns-in-End-clause-prompts g c = prompts_unprompted c.args.request.now c.args.self.now c.finished.new.self _ _ _ (unprompted_event c.args.self.now c.finished.new.self (Ended c.in-End.outcome) c.finished.ensures.past refl c.finished.ensures.kept) refl
+
+pub returns-in-End-clause-prompt_faults : goal.returns-in-End-clause-prompt_faults
+returns-in-End-clause-prompt_faults g c = tells_ask_still g.P.Prompter.sticks c.args.self.now c.finished.new.self _ _ (unprompted_faults c.args.self.now c.finished.new.self (unprompted_event c.args.self.now c.finished.new.self (Ended c.in-End.outcome) c.finished.ensures.past refl c.finished.ensures.kept)) refl
+
+pub returns-in-End-clause-prompt_quiet : goal.returns-in-End-clause-prompt_quiet
+returns-in-End-clause-prompt_quiet g c = λ quiet. (quiet, unprompted_faults c.args.self.now c.finished.new.self (unprompted_event c.args.self.now c.finished.new.self (Ended c.in-End.outcome) c.finished.ensures.past refl c.finished.ensures.kept))
+
+pub returns-in-SpentOver-clause-traffic : goal.returns-in-SpentOver-clause-traffic
+returns-in-SpentOver-clause-traffic g c = tells_spent_over c.args.request.now c.args.self.now c.spent_over.new.self _ _ (sym (ap (λ (v : Kept). v.stage) c.self.view_is) ∙ c.in-SpentOver.is) c.spent_over.ensures.past c.spent_over.ensures.goes c.spent_over.ensures.kept
+
+pub returns-in-SpentOver-clause-faults : goal.returns-in-SpentOver-clause-faults
+returns-in-SpentOver-clause-faults g c = tells_link_still g.D.Dialer.sticks c.args.self.now c.spent_over.new.self _ _ (ap link_faults c.spent_over.ensures.past) refl
+
+pub returns-in-SpentOver-clause-quiet : goal.returns-in-SpentOver-clause-quiet
+returns-in-SpentOver-clause-quiet g c = λ quiet. (quiet, ap link_faults c.spent_over.ensures.past)
+
+pub returns-in-SpentOver-clause-prompts : goal.returns-in-SpentOver-clause-prompts
+returns-in-SpentOver-clause-prompts g c = prompts_unprompted c.args.request.now c.args.self.now c.spent_over.new.self _ _ _ (unprompted_event c.args.self.now c.spent_over.new.self (Ended NoMemory) c.spent_over.ensures.past refl c.spent_over.ensures.kept) refl
+
+pub returns-in-SpentOver-clause-prompt_faults : goal.returns-in-SpentOver-clause-prompt_faults
+returns-in-SpentOver-clause-prompt_faults g c = tells_ask_still g.P.Prompter.sticks c.args.self.now c.spent_over.new.self _ _ (unprompted_faults c.args.self.now c.spent_over.new.self (unprompted_event c.args.self.now c.spent_over.new.self (Ended NoMemory) c.spent_over.ensures.past refl c.spent_over.ensures.kept)) refl
+
+pub returns-in-SpentOver-clause-prompt_quiet : goal.returns-in-SpentOver-clause-prompt_quiet
+returns-in-SpentOver-clause-prompt_quiet g c = λ quiet. (quiet, unprompted_faults c.args.self.now c.spent_over.new.self (unprompted_event c.args.self.now c.spent_over.new.self (Ended NoMemory) c.spent_over.ensures.past refl c.spent_over.ensures.kept))
+
+pub returns-in-Ask-clause-traffic : goal.returns-in-Ask-clause-traffic
+returns-in-Ask-clause-traffic g c = tells_asked c.args.request.now c.args.self.now c.ask_next.new.self c.in-Ask.prompt c.in-Ask.ordinal c.in-Ask.prompt.number _ _ (sym (ap (λ (v : Kept). v.stage) c.self.view_is) ∙ c.in-Ask.is) c.ask_next.ensures.past c.ask_next.ensures.line
+
+pub returns-in-Ask-clause-faults : goal.returns-in-Ask-clause-faults
+returns-in-Ask-clause-faults g c = tells_link_still g.D.Dialer.sticks c.args.self.now c.ask_next.new.self _ _ (ap link_faults c.ask_next.ensures.past.1) refl
+
+pub returns-in-Ask-clause-quiet : goal.returns-in-Ask-clause-quiet
+returns-in-Ask-clause-quiet g c = λ quiet. (quiet, ap link_faults c.ask_next.ensures.past.1)
+
+pub returns-in-Ask-clause-prompts : goal.returns-in-Ask-clause-prompts
+returns-in-Ask-clause-prompts g c = λ s before by t it. c.ask_next.ensures.prompts s before t it
