@@ -3,6 +3,7 @@
 use auth_text::{Bytes, Identity};
 use spaces::*;
 use std::alloc::Global;
+use std::process::Abort;
 use std::test::Fail;
 
 fn request(alloc: Global, url: &[u8], proxy: Option<&[u8]>) -> Result<Request, Fail> {
@@ -20,54 +21,84 @@ fn request(alloc: Global, url: &[u8], proxy: Option<&[u8]>) -> Result<Request, F
 
 /// A direct request, and one that goes through a proxy.
 fn two_requests(alloc: Global) -> Result<Roster, Fail> {
-    let mut roster = Roster {
-        requests: Requests::new(alloc),
+    let mut requests = Requests::new(alloc);
+    requests.push(request(alloc, b"http://u:p@h/x?q", None)?)?;
+    requests.push(request(alloc, b"http://h/y", Some(b"http://proxy:3128/"))?)?;
+    Ok(Roster {
+        requests,
         allowed: Origins::new(alloc),
-    };
-    let direct = request(alloc, b"http://u:p@h/x?q", None)?;
-    let proxied = request(alloc, b"http://h/y", Some(b"http://proxy:3128/"))?;
-    roster.requests.push(direct)?;
-    roster.requests.push(proxied)?;
-    Ok(roster)
+    })
+}
+
+/// Whether the roster has the requests 1 and 2 and no other.
+fn has_two(roster: &Roster) -> bool {
+    roster.requests.len() == 2
+        && roster.requests.get(0).is_none()
+        && roster.requests.get(3).is_none()
+}
+
+/// Whether the request of that number goes over a proxy.
+fn is_over_proxy(roster: &Roster, number: u32) -> bool {
+    match roster.requests.get(number) {
+        Some(request) => request.proxy.is_some(),
+        None => false,
+    }
 }
 
 #[test]
 fn requests_are_numbered(rt: HostRuntime) -> Result<(), Fail> {
     let mut roster = two_requests(rt.alloc())?;
-    assert_eq!(rt; roster.requests.len(), 2);
-    assert!(rt; roster.requests.get(0).is_none());
-    assert!(rt; roster.requests.get(3).is_none());
-    let Some(proxied) = roster.requests.get(2) else {
-        return Err("no second request".into());
-    };
-    assert!(rt; proxied.proxy.is_some());
+    assert!(rt; has_two(&roster));
+    assert!(rt; is_over_proxy(&roster, 2));
     assert!(rt; roster.requests.pop().is_some());
     assert_eq!(rt; roster.requests.as_slice().len(), 1);
     Ok(())
 }
 
-#[test]
-fn requests_have_sites(rt: HostRuntime) -> Result<(), Fail> {
-    let mut roster = two_requests(rt.alloc())?;
-    assert_eq!(rt; roster.requests.len(), 2);
+/// Whether the site is in the partition `main`, and of that origin.
+fn is_site(site: &Site, host: &[u8], port: u16) -> bool {
+    site.partition.name() == b"main".as_slice()
+        && site.origin.host.as_slice() == host
+        && site.origin.port == port
+}
+
+/// The site of the second request's proxy.
+fn proxy_site(rt: &impl Abort, alloc: Global) -> Result<Site, Fail> {
+    let roster = two_requests(alloc)?;
+    assert!(rt; roster.requests.len() == 2);
     let Some(proxied) = roster.requests.get(2) else {
         return Err("no second request".into());
     };
     assert!(rt; proxied.proxy.is_some());
-    let proxy = roster.site(rt.alloc(), 2, Target::Proxy)?;
-    assert_eq!(rt; proxy.origin.host.as_slice(), b"proxy".as_slice());
-    assert_eq!(rt; proxy.origin.port, 3128);
-    let server = roster.site(rt.alloc(), 2, Target::Server)?;
-    assert_eq!(rt; server.origin.host.as_slice(), b"h".as_slice());
+    Ok(roster.site(alloc, 2, Target::Proxy)?)
+}
+
+/// The site of the second request's server.
+fn server_site(rt: &impl Abort, alloc: Global) -> Result<Site, Fail> {
+    let roster = two_requests(alloc)?;
+    assert!(rt; roster.requests.len() == 2);
+    Ok(roster.site(alloc, 2, Target::Server)?)
+}
+
+#[test]
+fn requests_have_sites(rt: HostRuntime) -> Result<(), Fail> {
+    let proxy = proxy_site(&rt, rt.alloc())?;
+    assert!(rt; is_site(&proxy, b"proxy", 3128));
+    let server = server_site(&rt, rt.alloc())?;
+    assert!(rt; is_site(&server, b"h", 80));
     assert!(rt; !same_site(&server, &proxy));
-    assert_eq!(rt; server.partition.name(), b"main".as_slice());
-    roster.allowed.push(server.origin)?;
-    assert_eq!(rt; roster.allowed.len(), 1);
-    assert!(rt; roster.allowed.get(1).is_none());
-    let Some(allowed) = roster.allowed.pop() else {
+    Ok(())
+}
+
+#[test]
+fn an_allowed_origin_is_taken_back(rt: HostRuntime) -> Result<(), Fail> {
+    let mut allowed = Origins::new(rt.alloc());
+    allowed.push(place_of(rt.alloc(), b"http://h/y")?.origin)?;
+    assert!(rt; allowed.len() == 1 && allowed.get(1).is_none());
+    let Some(taken) = allowed.pop() else {
         return Err("no origin".into());
     };
-    assert_eq!(rt; allowed.port, 80);
+    assert_eq!(rt; taken.port, 80);
     Ok(())
 }
 
@@ -81,19 +112,22 @@ fn space(alloc: Global, partition: &[u8], url: &[u8]) -> Result<Space, Fail> {
     Ok(Space::new(site, Scheme::Basic, realm))
 }
 
-const SPACES: [(&[u8], &[u8]); 3] = [
-    (b"a", b"http://h/"),
-    (b"b", b"http://h/"),
-    (b"a", b"http://h:81/"),
-];
+/// Three spaces that differ.
+fn space_row(alloc: Global, n: u32) -> Result<Space, Fail> {
+    match n {
+        0 => space(alloc, b"a", b"http://h/"),
+        1 => space(alloc, b"b", b"http://h/"),
+        _ => space(alloc, b"a", b"http://h:81/"),
+    }
+}
 
 #[test]
 fn same_spaces(rt: HostRuntime) -> Result<(), Fail> {
-    for (i, one) in SPACES.iter().enumerate() {
-        for (k, other) in SPACES.iter().enumerate() {
-            let a = space(rt.alloc(), one.0, one.1)?;
-            let b = space(rt.alloc(), other.0, other.1)?;
-            assert_eq!(rt; same_space(&a, &b), i == k);
+    for i in 0..3 {
+        for k in 0..3 {
+            let a = space_row(rt.alloc(), i)?;
+            let b = space_row(rt.alloc(), k)?;
+            assert!(rt; same_space(&a, &b) == (i == k), "{i} and {k}");
         }
     }
     Ok(())
@@ -111,65 +145,114 @@ fn terms(alloc: Global, nonce: &[u8], userhash: bool) -> Result<Terms, Fail> {
     })
 }
 
-const TERMS: [(&[u8], bool); 3] = [(b"n", false), (b"m", false), (b"n", true)];
+/// Three terms that differ.
+fn terms_row(alloc: Global, n: u32) -> Result<Terms, Fail> {
+    match n {
+        0 => terms(alloc, b"n", false),
+        1 => terms(alloc, b"m", false),
+        _ => terms(alloc, b"n", true),
+    }
+}
 
 #[test]
 fn same_digest_terms(rt: HostRuntime) -> Result<(), Fail> {
-    for (i, one) in TERMS.iter().enumerate() {
-        for (k, other) in TERMS.iter().enumerate() {
-            let a = terms(rt.alloc(), one.0, one.1)?;
-            let b = terms(rt.alloc(), other.0, other.1)?;
-            assert_eq!(rt; same_terms(&a, &b), i == k);
+    for i in 0..3 {
+        for k in 0..3 {
+            let a = terms_row(rt.alloc(), i)?;
+            let b = terms_row(rt.alloc(), k)?;
+            assert!(rt; same_terms(&a, &b) == (i == k), "{i} and {k}");
         }
     }
     Ok(())
 }
 
-/// Whether copies of a space with its site, of terms and of an identity are equal to what was copied.
-fn copies_are_equal(alloc: Global) -> Result<bool, Fail> {
+/// Whether a copy of a space is equal to it.
+fn space_is_copied(alloc: Global) -> Result<bool, Fail> {
     let space = space(alloc, b"a", b"http://h:81/")?;
+    let copy = copy_space(&space)?;
+    Ok(copy == space)
+}
+
+fn site_is_copied(alloc: Global) -> Result<bool, Fail> {
+    let space = space(alloc, b"a", b"http://h:81/")?;
+    let copy = copy_site(space.site())?;
+    Ok(copy == *space.site())
+}
+
+fn terms_are_copied(alloc: Global) -> Result<bool, Fail> {
     let terms = terms(alloc, b"n", true)?;
+    let copy = copy_terms(&terms)?;
+    Ok(copy == terms)
+}
+
+fn login_is_copied(alloc: Global) -> Result<bool, Fail> {
     let login = Identity::new(alloc, b"u", b"p")?;
-    Ok(
-        copy_space(&space)? == space
-            && copy_site(space.site())? == *space.site()
-            && copy_terms(&terms)? == terms
-            && copy_identity(&login)? == login,
-    )
+    let copy = copy_identity(&login)?;
+    Ok(copy == login)
 }
 
 #[test]
-fn copies(rt: HostRuntime) -> Result<(), Fail> {
-    let equal = copies_are_equal(rt.alloc())?;
-    assert!(rt; equal);
-    let roster = two_requests(rt.alloc())?;
-    let copy = copy_roster(rt.alloc(), &roster)?;
-    assert_eq!(rt; copy.requests.len(), 2);
-    for (one, other) in roster
-        .requests
-        .as_slice()
-        .iter()
-        .zip(copy.requests.as_slice())
-    {
-        assert!(rt; one == other);
-        let again = copy_request(one)?;
-        assert!(rt; again == *one);
-        let origin = copy_origin(&one.place.origin)?;
-        assert!(rt; origin == one.place.origin);
-    }
+fn copies_are_equal(rt: HostRuntime) -> Result<(), Fail> {
+    assert!(rt; space_is_copied(rt.alloc())?);
+    assert!(rt; site_is_copied(rt.alloc())?);
+    assert!(rt; terms_are_copied(rt.alloc())?);
+    assert!(rt; login_is_copied(rt.alloc())?);
     Ok(())
 }
 
-const PORTS: [(u16, &[u8]); 3] = [(80, b"h"), (8080, b"h:8080"), (0, b"h:0")];
+/// Whether copies of a request and its origin are equal to these.
+fn request_is_copied(request: &Request) -> Result<bool, Fail> {
+    let origin = copy_origin(&request.place.origin)?;
+    let same = origin == request.place.origin;
+    let copy = copy_request(request)?;
+    Ok(same && copy == *request)
+}
+
+/// Whether the request of the number is in both rosters the same.
+fn is_in_both(roster: &Roster, copy: &Roster, number: u32) -> Result<bool, Fail> {
+    match (roster.requests.get(number), copy.requests.get(number)) {
+        (Some(request), Some(copied)) => Ok(request == copied && request_is_copied(request)?),
+        _ => Ok(false),
+    }
+}
+
+/// Whether a copy of the roster has the same requests.
+fn roster_is_copied(alloc: Global) -> Result<bool, Fail> {
+    let roster = two_requests(alloc)?;
+    let copy = copy_roster(alloc, &roster)?;
+    Ok(copy.requests.len() == 2 && is_in_both(&roster, &copy, 1)? && is_in_both(&roster, &copy, 2)?)
+}
+
+#[test]
+fn rosters_are_copied(rt: HostRuntime) -> Result<(), Fail> {
+    assert!(rt; roster_is_copied(rt.alloc())?);
+    Ok(())
+}
+
+/// A port, and what is written of it behind a host.
+fn port_row(n: u32) -> (u16, &'static [u8]) {
+    match n {
+        0 => (80, b"h"),
+        1 => (8080, b"h:8080"),
+        _ => (0, b"h:0"),
+    }
+}
+
+/// What is written of a host `h` and the port.
+fn with_port(alloc: Global, port: u16) -> Result<Bytes, Fail> {
+    let mut text = Bytes::from_slice(alloc, b"h")?;
+    push_port(&mut text, port)?;
+    Ok(text)
+}
 
 #[test]
 fn ports_and_methods(rt: HostRuntime) -> Result<(), Fail> {
-    for (port, written) in &PORTS {
-        let mut text = Bytes::from_slice(rt.alloc(), b"h")?;
-        push_port(&mut text, *port)?;
-        assert_eq!(rt; text.as_slice(), *written);
+    for n in 0..3 {
+        let (port, written) = port_row(n);
+        let text = with_port(rt.alloc(), port)?;
+        assert!(rt; text.as_slice() == written, "row {n}");
     }
-    assert_eq!(rt; Method::Get.name(), b"GET".as_slice());
-    assert_eq!(rt; Method::Head.name(), b"HEAD".as_slice());
+    assert!(rt; Method::Get.name() == b"GET".as_slice());
+    assert!(rt; Method::Head.name() == b"HEAD".as_slice());
     Ok(())
 }
