@@ -105,7 +105,7 @@ one_if b = cond b 1 0
 begun_next : (entry : Entry) (entries : List Entry) → begun (entry ∷ entries) ≡ one_if (begins entry.call) + begun entries
 begun_next entry entries = sum_by-cons (λ (e : Entry). cond (begins e.call) 1 0) entry entries
 
-some_begun : (r : ℕ) (past : List Event) → IsTrue (list_any (λ made. begins made.call) (calls past)) → 1 ≤ begun (entries_of r past)
+pub some_begun : (r : ℕ) (past : List Event) → IsTrue (list_any (λ made. begins made.call) (calls past)) → 1 ≤ begun (entries_of r past)
 some_begun r [] some = absurd (false≢true some)
 some_begun r (Called call reply ∷ past) some = at (begins call) refl (λ h. some_begun r past h) some
   where
