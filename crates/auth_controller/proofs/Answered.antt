@@ -1,5 +1,5 @@
 -- A machine that is given what the book or the words told is served on.
-use Rattle.std.proofs.Common.{◌≡◌, ℕ, suc, ◌≤◌, ◌<◌, true, false, IsTrue, List, ◌∷◌, length, Some, is_some, refl, sym, ap, ◌∙◌, subst, arith}
+use Rattle.std.proofs.Common.{◌≡◌, inr, ℕ, suc, ◌≤◌, ◌<◌, true, false, IsTrue, List, ◌∷◌, length, Some, is_some, refl, sym, ap, ◌∙◌, subst, arith}
 use Rattle.std.proofs.lemmas.Bool.{false≢true}
 use Rattle.spaces.specs.declared.roster.Request.{Request}
 use Rattle.spaces.specs.declared.roster.Roster.{Roster}
@@ -34,6 +34,7 @@ use Rattle.auth_controller.specs.Serving.{IsServing, has_memory, pending_at}
 use Rattle.auth_controller.proofs.Going.{setting_known}
 use Rattle.auth_controller.proofs.NeedStages.{is_kind, not_it}
 use Rattle.auth_controller.proofs.Replied.{heard, replied_serving, reply_to}
+use Rattle.auth_controller.proofs.Texts.{no_text}
 
 -- THE MACHINE'S SETTING
 
@@ -116,6 +117,8 @@ module _ (roster : Roster) (told more : List Told) (words : List Drawn) (m n : K
     gave = Reply reply;
     as_it = given;
     so = λ words before first request serving s k. reply_to roster before told more first words request m serving call reply need is_answer after legal s k m.stage refl need;
+    text = no_text (names_told more) m m.stage (Reply reply) refl;
+    heard = inr grew;
     left = given.nearer grew;
   }
 

@@ -37,6 +37,7 @@ use Rattle.auth_controller.proofs.Asking.{now}
 use Rattle.auth_controller.proofs.DrawTargets.{drawn_target}
 use Rattle.auth_controller.proofs.Going.{drawn_serving}
 use Rattle.auth_controller.proofs.NeedStages.{draw_need}
+use Rattle.auth_controller.proofs.Texts.{no_text}
 
 -- a past draws no more often than it has events
 drawn_few : (n : ℕ) (events : List Event) → times_drawn events n ≤ length events
@@ -88,7 +89,7 @@ module _ (roster : Roster) (told : List Told) (words : List Drawn) (m : Kept) (h
     grew = longer m n (Drew at.0 nonce (draws_of words nonce + 1) (retirements_of words nonce)) drew
 
     pub draw_given : IsGiven roster told told m n
-    draw_given = record { gave = CountGiven drawn; as_it = given; so = λ words before first request serving s k. tt; left = given.nearer grew }
+    draw_given = record { gave = CountGiven drawn; as_it = given; so = λ words before first request serving s k. tt; text = no_text (names_told told) m m.stage (CountGiven drawn) refl; heard = inr grew; left = given.nearer grew }
 
     pub draw_served : AreFew (length roster.requests) (names_told told) → IsServedOn roster told told words (with_draw words nonce) m n
     draw_served few = record {

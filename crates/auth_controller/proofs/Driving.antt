@@ -1,5 +1,5 @@
 -- A machine that is driven on: by what it does itself, and by what it is told.
-use Rattle.std.proofs.Common.{ℕ, ◌≡◌, ◌⊎◌, inl, inr, ◌<◌, ◌==◌, Bool, true, false, not, IsTrue, List, ◌∷◌, Option, Some, None, is_some, option_map, unwrap_or, refl, sym, ap, ◌∙◌, subst}
+use Rattle.std.proofs.Common.{ℕ, ◌≡◌, ◌⊎◌, inl, inr, ◌<◌, ◌==◌, Bool, true, false, not, IsTrue, List, [], ◌∷◌, Option, Some, None, is_some, option_map, unwrap_or, refl, sym, ap, ◌∙◌, subst}
 use Rattle.std.specs.Prelude.{IfSome}
 use Rattle.std.proofs.lemmas.Bool.{false≢true}
 use Rattle.spaces.specs.declared.roster.Request.{Request}
@@ -35,22 +35,44 @@ use Rattle.auth_events.specs.declared.journal.Loss.TheVariants.{Memory}
 use Rattle.auth_runs.specs.declared.event.Event.TheVariants.{Called, Drew}
 use Rattle.request_machine.specs.declared.need.Need.TheVariants.{TermsNo}
 use Rattle.request_machine.specs.Needs.{need_at}
+use Rattle.auth_text.specs.Login.{Login}
+use Rattle.spaces.specs.ProtectionSpaces.{ProtectionSpace}
+use Rattle.link_trait.specs.declared.dialer.Traffic.{Traffic}
+use Rattle.link_trait.specs.declared.prompts.Ask.{Ask as Asked}
+use Rattle.request_machine.specs.Carried.{IsCarried}
+use Rattle.request_machine.specs.Prompted.{IsAnsweredBy, IsPrompted}
+use Rattle.request_machine.proofs.Sent.{carried_given}
+use Rattle.request_machine.proofs.Giving.{prompted_given}
 use Rattle.request_machine.specs.Driven.{insides}
+use Rattle.request_machine.specs.Failed.{ask_faults, link_faults}
 use Rattle.request_machine.specs.Gives.{call_at, is_heard, past_drawn, past_given, past_replied}
 use Rattle.request_machine.specs.Kept.{IsKept, IsSettingOf, Kept, Ties}
 use Rattle.request_machine.specs.Linked.{AreDialsOf, IsLinked, IsOnlyLink, line, of_others}
 use Rattle.request_machine.specs.Turns.{IsStill, is_asking}
 use Rattle.request_machine.specs.Work.{is_unspent, is_waiting}
 use Rattle.auth_controller.specs.Answering.{HasServing, IsGiven, IsServedOn}
-use Rattle.auth_controller.specs.Driving.{HasDriving, IsDriving, Seen}
+use Rattle.auth_controller.specs.Driving.{HasDriving, IsDriving, Peers, Seen}
 use Rattle.auth_controller.specs.Serving.{IsServing, has_memory, pending_at}
 use Rattle.auth_controller.proofs.Answered.{is_free, spent_out, ties_here}
+use Rattle.auth_controller.specs.Texts.{AreTextsTold}
 use Rattle.auth_controller.proofs.Going.{gone_serving, setting_known}
+use Rattle.auth_controller.proofs.Texts.{given_texts, stepped_texts, told_stays}
+use Rattle.book_laws.proofs.Growing.{NamesGrow, grow_told}
 
 -- WHAT IT DOES ITSELF
 
+-- what it tells goes on
+abbrev pub StepsTraffic : Roster → Option (LinkName → List ℕ) → Kept → Kept → Option (List Traffic) → Option (List Traffic) → Type 0
+StepsTraffic roster streams m n was is =
+    (s : Setting) (before : Option (List Traffic)) (more : List Traffic) → IsSettingOf s roster m.number m.seed → Ties s m → was ≡ grown before more
+    → IsCarried s streams before m more → (further : List Traffic) × (is ≡ grown before further) × IsCarried s streams before n further
+
+abbrev pub StepsPrompts : Roster → Option (ProtectionSpace → ℕ → Option Login) → Kept → Kept → Option (List Asked) → Option (List Asked) → Type 0
+StepsPrompts roster answers m n was is =
+    (s : Setting) (before : Option (List Asked)) → IsSettingOf s roster m.number m.seed → Ties s m → IsPrompted s before answers m was → IsPrompted s before answers n is
+
 -- the machine went on by itself
-pub record IsStepped (roster : Roster) (m n : Kept) (was now : Seen) : Type 0 where
+pub record IsStepped (roster : Roster) (peer : Peers) (m n : Kept) (was now : Seen) : Type 0 where
   pub number : n.number ≡ m.number
   pub seed : n.seed ≡ m.seed
   pub ties : (s : Setting) → IsSettingOf s roster m.number m.seed → Ties s m → Ties s n
@@ -59,6 +81,8 @@ pub record IsStepped (roster : Roster) (m n : Kept) (was now : Seen) : Type 0 wh
   pub undialed : AreDialsOf (line n) now.dials
   pub others : of_others m.number now.opened ≡ of_others m.number was.opened
   pub dialed : (s : Setting) (before : Option (List Dial)) → IsSettingOf s roster m.number m.seed → Ties s m → was.dials ≡ grown before (dials s m.past) → now.dials ≡ grown before (dials s n.past)
+  pub traffic : StepsTraffic roster peer.streams m n was.traffic now.traffic
+  pub prompts : StepsPrompts roster peer.answers m n was.asks now.asks
   pub same_inside : insides n.past ≡ insides m.past
   pub still : is_asking m ≡ true → (n.past ≡ m.past) × IsStill m n
   pub free : is_asking m ≡ false → is_waiting n.stage ≡ false
@@ -82,8 +106,8 @@ idle_free roster before told first words request m serving idle = by m.stage ref
     by (RenewLast t gift terms c) is e = absurd (false≢true (sym e))
     by x is e = refl
 
-module _ (roster : Roster) (start now : Seen) (request : Request) (m n : Kept) (later : Seen) (driving : IsDriving roster start now request m)
-    (stepped : IsStepped roster m n now later) where
+module _ (roster : Roster) (peer : Peers) (start now : Seen) (request : Request) (m n : Kept) (later : Seen) (driving : IsDriving roster peer start now request m)
+    (stepped : IsStepped roster peer m n now later) where
   -- memory hadn't run out before
   memory_was : IsTrue (has_memory n.stage n.past) → IsTrue (has_memory m.stage m.past)
   memory_was memory = by m.stage refl
@@ -125,9 +149,9 @@ module _ (roster : Roster) (start now : Seen) (request : Request) (m n : Kept) (
   of_it s k = setting_known roster now.told request m s driving.serving.served.alone.in_roster k
 
   abbrev stepped_seen : Seen
-  stepped_seen = record now { dials = later.dials; opened = later.opened }
+  stepped_seen = record now { dials = later.dials; opened = later.opened; traffic = later.traffic; asks = later.asks }
 
-  pub stepped_driving : IsDriving roster start stepped_seen request n
+  pub stepped_driving : IsDriving roster peer start stepped_seen request n
   stepped_driving = record {
     serving =
         gone_serving roster start.told now.told start.words now.words request m n driving.serving (record { number = stepped.number; seed = stepped.seed }) stepped.same_inside stepped.ties
@@ -137,7 +161,18 @@ module _ (roster : Roster) (start now : Seen) (request : Request) (m n : Kept) (
     undialed = stepped.undialed;
     others = subst (λ r. of_others r later.opened ≡ of_others r start.opened) (sym stepped.number) (stepped.others ∙ driving.others);
     dialed = λ s k. (let k' = knew s k in stepped.dialed s start.dials (of_it s k') (driving.serving.known s k') (driving.dialed s k'));
+    traffic = λ s k.
+        let k' = knew s k in
+        let it = driving.traffic s k' in
+        let on = stepped.traffic s start.traffic it.more (of_it s k') (driving.serving.known s k') it.grows it.carried in
+        record { more = on.0; grows = on.1; carried = on.2 };
+    prompted = λ s k. (let k' = knew s k in stepped.prompts s start.asks (of_it s k') (driving.serving.known s k') (driving.prompted s k'));
+    texts = λ s k. stepped_so s peer.answers (driving.texts s (knew s k));
   }
+    where
+      stepped_so : (s : Setting) (o : Option (ProtectionSpace → ℕ → Option Login)) → IfSome o (λ answers. AreTextsTold s answers (names_told now.told) m) → IfSome o (λ answers. AreTextsTold s answers (names_told now.told) n)
+      stepped_so s None told = tt
+      stepped_so s (Some answers) told = stepped_texts s answers (names_told now.told) m n stepped.same_inside stepped.still stepped.free told
 
 -- WHAT IT IS TOLD
 
@@ -171,6 +206,21 @@ untold_given f calls draws m gave = refl
 dials_given : (s : Setting) (m : Kept) (gave : Gave) → dials s (past_given m gave) ≡ dials s m.past
 dials_given s m gave = untold_given (dials s) (λ call reply past. refl) (λ t n count epoch past. refl) m gave
 
+-- FAILURES
+
+-- no answer is a failure of a dialer or of a prompter
+pub links_given : (m : Kept) (gave : Gave) → link_faults (past_given m gave) ≡ link_faults m.past
+links_given m gave = untold_given link_faults (λ call reply past. refl) (λ t n count epoch past. refl) m gave
+
+pub asks_given : (m : Kept) (gave : Gave) → ask_faults (past_given m gave) ≡ ask_faults m.past
+asks_given m gave = untold_given ask_faults (λ call reply past. refl) (λ t n count epoch past. refl) m gave
+
+-- where one that fails no more was at no failure before, it is at none now
+pub still_quiet : (before was is : Type 0) (earlier now later : List ℕ) → (was → is × (now ≡ earlier)) → later ≡ now → (before → was × (earlier ≡ [])) → before → is × (later ≡ [])
+still_quiet before was is earlier now later goes same first = λ quiet. (let it = first quiet in let on = goes it.0 in (on.0, same ∙ (on.1 ∙ it.1)))
+
+-- OF ONE NEED
+
 only_same : (m n : Kept) (opened : List LinkName) → n.number ≡ m.number → n.link ≡ m.link → n.links ≡ m.links → IsOnlyLink (line m) opened → IsOnlyLink (line n) opened
 only_same m n opened number link links only = record {
   last =
@@ -183,17 +233,38 @@ only_same m n opened number link links only = record {
 undialed_same : (m n : Kept) (told : Option (List Dial)) → n.number ≡ m.number → n.links ≡ m.links → AreDialsOf (line m) told → AreDialsOf (line n) told
 undialed_same m n told number links undialed = λ k low. subst (λ r. IsUndialed (record { request = r; nth = k }) told) (sym number) (undialed k (subst (λ x. x < k) links low))
 
-pub answered_driving : (roster : Roster) (start now : Seen) (request : Request) (m n : Kept) (more : List Told) (later : List Drawn) → IsDriving roster start now request m
-    → IsGiven roster now.told more m n → IsServedOn roster now.told more now.words later m n → IsDriving roster start (record now { told = more; words = later }) request n
-answered_driving roster start now request m n more later driving given on = record {
+pub answered_driving : (roster : Roster) (peer : Peers) (start now : Seen) (request : Request) (m n : Kept) (more : List Told) (later : List Drawn) → IsDriving roster peer start now request m
+    → IsGiven roster now.told more m n → IsServedOn roster now.told more now.words later m n → IsDriving roster peer start (record now { told = more; words = later }) request n
+answered_driving roster peer start now request m n more later driving given on = record {
   serving = serving;
   linked = given.as_it.linked driving.linked;
   only = only_same m n now.opened given.as_it.number given.as_it.link given.as_it.links driving.only;
   undialed = undialed_same m n now.dials given.as_it.number given.as_it.links driving.undialed;
   others = subst (λ r. of_others r now.opened ≡ of_others r start.opened) (sym given.as_it.number) driving.others;
   dialed = λ s k. driving.dialed s (knew_so s k) ∙ ap (grown start.dials) (sym (ap (dials s) given.as_it.past ∙ dials_given s m given.gave));
+  traffic = λ s k.
+      let it = driving.traffic s (knew_so s k) in
+      record {
+        more = it.more;
+        grows = it.grows;
+        carried =
+            carried_given s peer.streams start.traffic m n given.gave it.more (driving.serving.known s (knew_so s k)) given.as_it.past given.as_it.number given.as_it.links given.as_it.link given.as_it.ends it.carried;
+      };
+  prompted = λ s k.
+      prompted_given s start.asks peer.answers m n given.gave now.asks (driving.serving.known s (knew_so s k)) driving.linked
+      (given.so now.words start.told start.words request driving.serving s (at_it s k)) given.as_it.past given.as_it.given given.as_it.space (driving.prompted s (knew_so s k));
+  texts = λ s k. texts_so s (driving.serving.known s (knew_so s k)) peer.answers (driving.prompted s (knew_so s k)).answered (driving.texts s (knew_so s k));
 }
   where
+    grow : NamesGrow (names_told now.told) (names_told more)
+    grow = subst (λ l. NamesGrow (names_told now.told) (names_told l)) on.adds.grows (grow_told now.told on.adds.items)
+
+    texts_so : (s : Setting) → Ties s m → (o : Option (ProtectionSpace → ℕ → Option Login)) → IfSome o (λ answers. IsAnsweredBy s answers m) → IfSome o (λ answers. AreTextsTold s answers (names_told now.told) m)
+        → IfSome o (λ answers. AreTextsTold s answers (names_told more) n)
+    texts_so s ties None answered told = tt
+    texts_so s ties (Some answers) answered told =
+        given_texts s answers (names_told more) m ties answered (told_stays s answers (names_told now.told) (names_told more) grow m told) n given.gave given.as_it given.text given.heard
+
     serving : IsServing roster start.told more start.words later request n
     serving = on.on start.told start.words request driving.serving
 
@@ -205,25 +276,25 @@ answered_driving roster start now request m n more later driving given on = reco
 
 -- ONE NEED
 
-module _ (roster book : Roster) (same : roster ≡ book) (start now : Seen) (m n : Kept) (later : Seen) (has : HasDriving roster start now m)
-    (stepped : IsStepped roster m n now later) where
+module _ (roster book : Roster) (same : roster ≡ book) (peer : Peers) (start now : Seen) (m n : Kept) (later : Seen) (has : HasDriving roster peer start now m)
+    (stepped : IsStepped roster peer m n now later) where
   abbrev on_it : Seen
-  on_it = record now { dials = later.dials; opened = later.opened }
+  on_it = record now { dials = later.dials; opened = later.opened; traffic = later.traffic; asks = later.asks }
 
-  pub step_on : HasDriving roster start on_it n
-  step_on = record { request = has.request; driving = stepped_driving roster start now has.request m n later has.driving stepped }
+  pub step_on : HasDriving roster peer start on_it n
+  step_on = record { request = has.request; driving = stepped_driving roster peer start now has.request m n later has.driving stepped }
 
   pub step_serving : HasServing book now.told now.words n
   step_serving =
       subst (λ x. HasServing x now.told now.words n) same
-      (record { before = start.told; first = start.words; request = has.request; serving = (stepped_driving roster start now has.request m n later has.driving stepped).serving })
+      (record { before = start.told; first = start.words; request = has.request; serving = (stepped_driving roster peer start now has.request m n later has.driving stepped).serving })
 
   pub answer_on : (k : Kept) (more : List Told) (words : List Drawn) → IsGiven book now.told more n k → IsServedOn book now.told more now.words words n k
-      → HasDriving roster start (record on_it { told = more; words = words }) k
+      → HasDriving roster peer start (record on_it { told = more; words = words }) k
   answer_on k more words given on = record {
     request = has.request;
     driving =
-        answered_driving roster start on_it has.request n k more words (stepped_driving roster start now has.request m n later has.driving stepped)
+        answered_driving roster peer start on_it has.request n k more words (stepped_driving roster peer start now has.request m n later has.driving stepped)
         (subst (λ x. IsGiven x now.told more n k) (sym same) given)
         (subst (λ x. IsServedOn x now.told more now.words words n k) (sym same) on);
   }

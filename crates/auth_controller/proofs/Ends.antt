@@ -49,12 +49,28 @@ use Rattle.link_trait.specs.declared.dialer.Dial.{Dial}
 use Rattle.auth_events.specs.Book.{IsLegal}
 use Rattle.auth_events.specs.Told.{has_no_draw, journal}
 use Rattle.request_machine.specs.Linked.{Line}
-use Rattle.auth_controller.specs.Driving.{HasDriving, IsDriving, Seen, seen}
+use Rattle.auth_controller.specs.Driving.{HasDriving, IsDriving, Peers, Seen, seen}
 use Rattle.auth_controller.proofs.Arms.{legal_told}
+use Rattle.std.specs.Prelude.{IfSome}
+use Rattle.auth_text.specs.Login.{Login}
+use Rattle.spaces.specs.ProtectionSpaces.{ProtectionSpace}
+use Rattle.link_trait.specs.declared.dialer.Traffic.{Traffic}
+use Rattle.link_trait.specs.declared.prompts.Ask.{Ask}
+use Rattle.link_trait.specs.Links.{read_on}
+use Rattle.trace_rule.specs.Heard.{IsHeard}
+use Rattle.trace_rule.specs.Telling.{IsSent, prompted}
+use Rattle.request_machine.specs.Carried.{IsRecorded, sent}
+use Rattle.request_machine.specs.Prompted.{AreAnswered, IsAnsweredBy}
+use Rattle.request_machine.proofs.Carrying.{first_carried}
+use Rattle.request_machine.proofs.Sent.{sent_over}
+use Rattle.request_machine.proofs.Giving.{first_prompted}
 use Rattle.request_machine.specs.declared.stage.Stage.TheVariants.{Call as Calling, Over}
 use Rattle.request_machine.specs.Kept.{IsSettingOf, IsStage, Kept, Ties}
+use Rattle.auth_controller.specs.Service.{IsCarriedOut, IsPromptedOut}
 use Rattle.auth_controller.specs.Serving.{IsServing, has_memory, pending_at}
+use Rattle.auth_controller.specs.Texts.{AreTextsOf, AreTextsTold}
 use Rattle.auth_controller.proofs.Going.{setting_known}
+use Rattle.auth_controller.proofs.Texts.{first_texts}
 
 -- a request that wasn't begun
 pub unbegun_serving : (roster : Roster) (told : List Told) (words : List Drawn) (request : Request) (m : Kept) (r : ℕ) (seed : List ℕ)
@@ -150,17 +166,24 @@ grown_none : {A : Type 0} (told : Option (List A)) → grown told [] ≡ told
 grown_none None = refl
 grown_none (Some items) = ap Some (append-nil items)
 
-pub unbegun_driving : (roster : Roster) (start : Seen) (request : Request) (m : Kept) (r : ℕ) (seed : List ℕ)
+pub unbegun_driving : (roster : Roster) (peer : Peers) (start : Seen) (request : Request) (m : Kept) (r : ℕ) (seed : List ℕ)
     → line m ≡ first_line r seed → m.past ≡ [] → m.stage ≡ Calling Begin → start.opened ≡ [] → ((n : ℕ) → IsUndialed (record { request = r; nth = n }) start.dials)
-    → IsServing roster start.told start.told start.words start.words request m → IsDriving roster start start request m
-unbegun_driving roster start request m r seed lined none stage unlinked undialed serving = record {
+    → IsServing roster start.told start.told start.words start.words request m → IsDriving roster peer start start request m
+unbegun_driving roster peer start request m r seed lined none stage unlinked undialed serving = record {
   serving = serving;
   linked = subst (λ x. IsLinkedOn (way x) (line m)) (sym stage) (subst (IsLinkedOn Onward) (sym lined) (refl, refl));
   only = subst (λ l. IsOnlyLink l start.opened) (sym lined) (subst (IsOnlyLink (first_line r seed)) (sym unlinked) (record { last = tt; only = λ n. refl }));
   undialed = subst (λ l. AreDialsOf l start.dials) (sym lined) (λ n low. undialed n);
   others = refl;
   dialed = λ s k. sym (ap (λ l. grown start.dials (dials s l)) none ∙ grown_none start.dials);
+  traffic = λ s k. record { more = []; grows = sym (grown_none start.traffic); carried = first_carried s peer.streams start.traffic m none };
+  prompted = λ s k. first_prompted s peer.answers m start.asks none (sym (grown_none start.asks));
+  texts = λ s k. none_yet s peer.answers;
 }
+  where
+    none_yet : (s : Setting) (o : Option (ProtectionSpace → ℕ → Option Login)) → IfSome o (λ answers. AreTextsTold s answers (names_told start.told) m)
+    none_yet s None = tt
+    none_yet s (Some answers) = first_texts s answers (names_told start.told) m Begin none stage
 
 -- no link is open where none of the request and none of others is
 none_open : (number : ℕ) (opened : List LinkName) → of_others number opened ≡ [] → ((n : ℕ) → has_link (record { request = number; nth = n }) opened ≡ false) → opened ≡ []
@@ -175,9 +198,13 @@ none_open number (name ∷ opened) others own = at (name.request == number) refl
         let kept : name ∷ of_others number opened ≡ [] = sym (ap (λ b. if not b then name ∷ of_others number opened else of_others number opened) other) ∙ others in
         let clash : name ∷ of_others number opened ≡ [] = kept in cc
 
+-- a past is its trace turned back
+pub past_of_trace : (past trace : List Event) → trace ≡ reverse past → past ≡ reverse trace
+past_of_trace past trace events = sym (ap reverse events ∙ reverse-reverse past)
+
 -- a request that is over
-module _ (roster : Roster) (start now : Seen) (found : Request) (m : Kept) (r : ℕ) (seed : List ℕ) (number : m.number ≡ r) (same_seed : m.seed ≡ seed)
-    (has : HasDriving roster start now m) (over : m.stage ≡ Over) (closed : m.link ≡ None) (trace : List Event) (events : trace ≡ reverse m.past) where
+module _ (roster : Roster) (peer : Peers) (start now : Seen) (found : Request) (m : Kept) (r : ℕ) (seed : List ℕ) (number : m.number ≡ r) (same_seed : m.seed ≡ seed)
+    (has : HasDriving roster peer start now m) (over : m.stage ≡ Over) (closed : m.link ≡ None) (trace : List Event) (events : trace ≡ reverse m.past) where
   same_request : numbered roster.requests r ≡ Some found → has.request ≡ found
   same_request is =
       let here : Some has.request ≡ Some found = sym (subst (λ x. numbered roster.requests x ≡ Some has.request) number has.driving.serving.served.alone.in_roster) ∙ is in
@@ -205,10 +232,37 @@ module _ (roster : Roster) (start now : Seen) (found : Request) (m : Kept) (r : 
       of_trace (λ x n q l. IsServedAlone roster x start.told now.told start.words now.words n q l) is
       (over_served roster start.told now.told start.words now.words has.request m has.driving.serving over)
 
-  pub driven_dialed : numbered roster.requests r ≡ Some found → now.dials ≡ grown start.dials (dials (setting_of roster seed (names_told now.told) (past now.told) r found) (reverse trace))
-  driven_dialed is =
-      of_trace (λ x n q l. now.dials ≡ grown start.dials (dials (setting_of roster x (names_told now.told) (past now.told) n q) (reverse l))) is
-      (has.driving.dialed its_setting knows_it ∙ ap (λ l. grown start.dials (dials its_setting l)) turned_past)
+  pub driven_carried : numbered roster.requests r ≡ Some found
+      → IsCarriedOut (setting_of roster seed (names_told now.told) (past now.told) r found) peer.streams start.dials now.dials start.traffic now.traffic trace
+  driven_carried is =
+      of_trace (λ x n q l. IsCarriedOut (setting_of roster x (names_told now.told) (past now.told) n q) peer.streams start.dials now.dials start.traffic now.traffic l) is
+      (let it = has.driving.traffic its_setting knows_it in
+      record {
+        dialed = has.driving.dialed its_setting knows_it ∙ ap (λ l. grown start.dials (dials its_setting l)) turned_past;
+        more = it.more;
+        grows = it.grows;
+        sent = subst (λ l. IsSent its_setting l (sent it.more)) turned_past (sent_over its_setting m (sent it.more) over (has.driving.serving.known its_setting knows_it) it.carried.sent);
+        heard = subst (λ l. IsHeard (λ name. read_on name it.more) its_setting.request.method its_setting.number l) turned_past it.carried.heard;
+        recorded = λ silent. subst (IsRecorded peer.streams its_setting.request.method its_setting.number) turned_past (it.carried.recorded silent);
+      })
+
+  pub driven_prompted : numbered roster.requests r ≡ Some found → IsPromptedOut (setting_of roster seed (names_told now.told) (past now.told) r found) peer.answers (names_told now.told) start.asks now.asks trace
+  driven_prompted is =
+      of_trace (λ x n q l. IsPromptedOut (setting_of roster x (names_told now.told) (past now.told) n q) peer.answers (names_told now.told) start.asks now.asks l) is
+      (let it = has.driving.prompted its_setting knows_it in
+      record {
+        told = it.told ∙ ap (λ l. grown start.asks (prompted its_setting l)) turned_past;
+        answered = answered_all peer.answers it.answered;
+        texts = texts_all peer.answers (has.driving.texts its_setting knows_it);
+      })
+    where
+      answered_all : (o : Option (ProtectionSpace → ℕ → Option Login)) → IfSome o (λ answer. IsAnsweredBy its_setting answer m) → IfSome o (λ answer. AreAnswered its_setting answer (reverse (reverse m.past)))
+      answered_all None by = tt
+      answered_all (Some answer) by = subst (AreAnswered its_setting answer) turned_past by.seen
+
+      texts_all : (o : Option (ProtectionSpace → ℕ → Option Login)) → IfSome o (λ answer. AreTextsTold its_setting answer (names_told now.told) m) → IfSome o (λ answer. AreTextsOf its_setting answer (names_told now.told) (reverse (reverse m.past)))
+      texts_all None by = tt
+      texts_all (Some answer) by = subst (AreTextsOf its_setting answer (names_told now.told)) turned_past by.made
 
   pub driven_closed : start.opened ≡ [] → now.opened ≡ []
   driven_closed unlinked =
@@ -220,19 +274,19 @@ some_request None there = absurd (false≢true there)
 some_request (Some found) there = (found, refl)
 
 -- a machine that hasn't begun is driven
-pub first_driving : (roster book : Roster) (names : Tables) (told : List Told) (words : List Drawn) (dialed : Option (List Dial)) (opened : List LinkName) (m : Kept) (r : ℕ) (seed : List ℕ)
+pub first_driving : (roster book : Roster) (names : Tables) (told : List Told) (words : List Drawn) (peer : Peers) (dialed : Option (List Dial)) (opened : List LinkName) (traffic : Option (List Traffic)) (asks : Option (List Ask)) (m : Kept) (r : ℕ) (seed : List ℕ)
     → roster ≡ book → names_told told ≡ names → IsTrue (has_no_draw told) → IsLegal book names (journal told) → AreNames names
     → IsSome (numbered roster.requests r) → own (past told) r ≡ [] → has_open_prompt (past told) ≡ false → AreFew (begun (past told)) names
     → length words ≡ 16 * length roster.requests → ((n : ℕ) → draws_of words n ≤ 2 ^ 29) → AreEpochs names (past told) words
     → opened ≡ [] → ((n : ℕ) → IsUndialed (record { request = r; nth = n }) dialed)
     → m.stage ≡ Calling Begin → m.past ≡ [] → line m ≡ first_line r seed → ((s : Setting) → IsSettingOf s roster r seed → Ties s m)
-    → HasDriving roster (seen told words dialed opened) (seen told words dialed opened) m
-first_driving roster book names told words dialed opened m r seed same_roster same none legal are there unserved closed few as_many few_draws epochs unlinked undialed stage empty lined ties =
+    → HasDriving roster peer (seen told words dialed opened traffic asks) (seen told words dialed opened traffic asks) m
+first_driving roster book names told words peer dialed opened traffic asks m r seed same_roster same none legal are there unserved closed few as_many few_draws epochs unlinked undialed stage empty lined ties =
     let found = some_request (numbered roster.requests r) there in
     record {
       request = found.0;
       driving =
-          unbegun_driving roster (seen told words dialed opened) found.0 m r seed lined empty stage unlinked undialed
+          unbegun_driving roster peer (seen told words dialed opened traffic asks) found.0 m r seed lined empty stage unlinked undialed
           (unbegun_serving roster told words found.0 m r seed (ap (λ (l : Line). l.number) lined) (ap (λ (l : Line). l.seed) lined) empty stage ties
           (legal_told roster book names told (sym same_roster) same none legal) (subst AreNames (sym same) are) found.1 unserved closed as_many
           (subst (λ (t : Tables). AreEpochs t (past told) words) (sym same) epochs) (subst (AreFew (begun (past told))) (sym same) few) few_draws);

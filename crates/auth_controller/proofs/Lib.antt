@@ -22,3 +22,4 @@ pub mod Naming
 pub mod NamingTerms
 pub mod Arms
 pub mod Driving
+pub mod Texts

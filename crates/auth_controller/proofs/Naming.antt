@@ -41,11 +41,13 @@ use Rattle.request_machine.specs.Needs.{need_at}
 use Rattle.request_machine.specs.Work.{is_answer, stage_told}
 use Rattle.auth_controller.specs.Answering.{HasServingBy, IsGiven, IsGivenAs, IsServedOnBy, number_given}
 use Rattle.auth_controller.specs.Serving.{IsServing, has_memory, pending_at}
+use Rattle.auth_controller.specs.Texts.{IsTextGiven}
 use Rattle.auth_controller.proofs.Asking.{now}
 use Rattle.auth_controller.proofs.Going.{named_serving, told_serving}
 use Rattle.auth_controller.proofs.Names.{may_name_space, space_so}
 use Rattle.auth_controller.proofs.NeedStages.{space_need}
 use Rattle.auth_controller.proofs.Reading.{told_given}
+use Rattle.auth_controller.proofs.Texts.{no_text}
 
 -- NOTHING, OR ONE NAME
 
@@ -131,7 +133,7 @@ module _ (roster : Roster) (told : List Told) (m : Kept) (has : HasServingBy ros
       (after : OnOk result (more ≡ told_space 1 (names_told told) told space)) (unchanged : OnErr result (more ≡ told)) (given : IsGivenAs (number_given result) m n) where
     space_ok : (number : ℕ) → numbered (names_told more).spaces number ≡ Some space → more ≡ told_space 1 (names_told told) told space → IsGivenAs (Number number) m n → IsGiven roster told more m n × IsServedOnBy roster told more m n
     space_ok number is grew given = (
-      told_given roster told m n (SpaceNo space) need (Number number) given answers more
+      told_given roster told m n (SpaceNo space) need (Number number) given answers more (subst (λ x. IsTextGiven (names_told more) m x (Number number)) (sym at_space.1) tt)
           (λ words before first request serving s k. subst (λ x. IsTold s m x (Number number)) (sym at_space.1) (space_so roster before told first words request m serving at_space.0 at_space.1 more space number are_names at_space.2 is s k)),
       λ words. record {
         adds = name_adds roster told more m n (SpaceNamed 1 space) (is_some (space_number (names_told told) space)) grew refl refl requests pages legal are_names;
@@ -178,7 +180,7 @@ module _ (roster : Roster) (told : List Told) (m : Kept) (has : HasServingBy ros
         by (Ok number) is grew same given = space_ok number is grew given
         by (Err free) is grew same given =
             let answers : IsTrue (is_answer m.stage NoneGiven) = subst (λ x. IsTrue (is_answer x NoneGiven)) (sym at_space.1) refl in (
-              told_given roster told m n (SpaceNo space) need NoneGiven given answers more
+              told_given roster told m n (SpaceNo space) need NoneGiven given answers more (no_text (names_told more) m m.stage NoneGiven refl)
                   (λ words before first request serving s k. subst (λ x. IsTold s m x NoneGiven) (sym at_space.1) tt),
               subst (λ l. IsServedOnBy roster told l m n) (sym same)
                   (none_on roster told m n (SpaceNo space) need given answers (subst (λ x. stage_told m x NoneGiven ≡ Spent) (sym at_space.1) refl) (λ s. subst (λ x. IsTold s m x NoneGiven) (sym at_space.1) tt)),

@@ -1,5 +1,5 @@
 -- A machine that is given the numbers of terms or of a text is served on.
-use Rattle.std.proofs.Common.{◌≡◌, ℕ, ◌+◌, ◌*◌, ◌<◌, ◌==◌, Bool, true, false, not, IsTrue, List, [], ◌∷◌, ◌++◌, length, Some, None, is_some, refl, sym, ap, ◌∙◌, subst, arith, if◌then◌else◌}
+use Rattle.std.proofs.Common.{◌≡◌, ℕ, ◌+◌, ◌*◌, ◌<◌, ◌==◌, Bool, true, false, not, IsTrue, List, [], ◌∷◌, ◌++◌, length, Option, Some, None, is_some, option_map, refl, sym, ap, ◌∙◌, subst, arith, if◌then◌else◌}
 use Rattle.std.specs.Prelude.{All, IfOk, IfSome, OnErr, OnOk, Result, Ok, Err}
 use Rattle.std.proofs.lemmas.Bool.{false≢true}
 use Rattle.auth_text.specs.Login.{Login}
@@ -13,6 +13,7 @@ use Rattle.auth_events.specs.declared.journal.Drawn.{Drawn}
 use Rattle.auth_events.specs.declared.told.Told.{Told}
 use Rattle.auth_events.specs.declared.told.Told.TheVariants.{TermsNamed, TextNamed}
 use Rattle.auth_events.specs.Book.{IsLegalPast}
+use Rattle.auth_events.proofs.Numbers.{numbered-last}
 use Rattle.auth_events.specs.Pages.{IsPage}
 use Rattle.auth_events.specs.Tables.{AreFew, AreNames, Tables, is_home, nonce_for, terms_number, with_new_terms, with_text}
 use Rattle.auth_events.specs.Told.{MayNameTerms, journal, names_told, past, told_terms}
@@ -35,11 +36,13 @@ use Rattle.request_machine.specs.Needs.{need_at}
 use Rattle.request_machine.specs.Work.{is_answer, stage_told}
 use Rattle.auth_controller.specs.Answering.{HasServingBy, IsGiven, IsGivenAs, IsServedOnBy, number_given, numbers_given}
 use Rattle.auth_controller.specs.Serving.{IsServing, has_memory, pending_at}
+use Rattle.auth_controller.specs.Texts.{IsTextGiven}
 use Rattle.auth_controller.proofs.Asking.{now}
 use Rattle.auth_controller.proofs.Names.{left, may_name_text, terms_have, terms_home}
 use Rattle.auth_controller.proofs.NeedStages.{IsTermsStage, terms_need, text_need}
 use Rattle.auth_controller.proofs.NeedStages.IsTermsStage.{chosen, last, stale}
 use Rattle.auth_controller.proofs.Reading.{told_given}
+use Rattle.auth_controller.proofs.Texts.{no_text}
 use Rattle.auth_controller.proofs.TermsLeft.{chosen_terms_left, last_at_home, stale_at_home}
 use Rattle.auth_controller.proofs.Naming.{entries_short, given_few, name_adds, name_on, none_on, nonzero}
 use Rattle.std.proofs.Common.{option_and_then}
@@ -176,7 +179,7 @@ module _ (roster : Roster) (told : List Told) (m : Kept) (has : HasServingBy ros
     module _ (x : Stage) (v : IsNamingTerms m space terms x) where
       terms_ok : (numbers : TermsRef) → IsNumbered numbers → more ≡ told_terms 1 (names_told told) told space terms → IsGivenAs (Ref numbers) m n → IsGiven roster told more m n × IsServedOnBy roster told more m n
       terms_ok numbers is grew given = (
-        told_given roster told m n (TermsNo space terms) need (Ref numbers) given answers more
+        told_given roster told m n (TermsNo space terms) need (Ref numbers) given answers more (no_text (names_told more) m m.stage (Ref numbers) refl)
             (λ words before first request serving s k. subst (λ y. IsTold s m y (Ref numbers)) (sym v.is) (v.tells s numbers (k.knows.terms_no space terms numbers.terms (terms_have (names_told more) are_names space terms numbers.terms numbers.nonce is)))),
         λ words. record {
           adds = name_adds roster told more m n item (is_some (terms_number (names_told told) space terms)) grew refl refl requests pages legal are_names;
@@ -231,7 +234,7 @@ module _ (roster : Roster) (told : List Told) (m : Kept) (has : HasServingBy ros
       terms_none : more ≡ told → IsGivenAs NoneGiven m n → IsGiven roster told more m n × IsServedOnBy roster told more m n
       terms_none same given =
           let answers : IsTrue (is_answer m.stage NoneGiven) = subst (λ y. IsTrue (is_answer y NoneGiven)) (sym v.is) v.none_answers in (
-            told_given roster told m n (TermsNo space terms) need NoneGiven given answers more
+            told_given roster told m n (TermsNo space terms) need NoneGiven given answers more (no_text (names_told more) m m.stage NoneGiven refl)
                 (λ words before first request serving s k. subst (λ y. IsTold s m y NoneGiven) (sym v.is) (v.tells_none s)),
             subst (λ l. IsServedOnBy roster told l m n) (sym same)
                 (none_on roster told m n (TermsNo space terms) need given answers (subst (λ y. stage_told m y NoneGiven ≡ Spent) (sym v.is) v.spent) (λ s. subst (λ y. IsTold s m y NoneGiven) (sym v.is) (v.tells_none s))),
@@ -254,7 +257,7 @@ module _ (roster : Roster) (told : List Told) (m : Kept) (has : HasServingBy ros
   module _ (more : List Told) (n : Kept) (requests : ℕ) (pages : All (IsPage requests) (journal told)) (legal : IsLegalPast roster (names_told more) (past more)) (are_names : AreNames (names_told more)) where
     text_ok : (number : ℕ) → number ≡ length (names_told told).texts + 1 → more ≡ told ++ TextNamed 1 identity ∷ [] → IsGivenAs (Number number) m n → IsGiven roster told more m n × IsServedOnBy roster told more m n
     text_ok number is grew given = (
-      told_given roster told m n (TextNo identity) need (Number number) given answers more
+      told_given roster told m n (TextNo identity) need (Number number) given answers more (subst (λ x. IsTextGiven (names_told more) m x (Number number)) (sym at_text.1) text_so)
           (λ words before first request serving s k. subst (λ x. IsTold s m x (Number number)) (sym at_text.1) tt),
       λ words. record {
         adds = name_adds roster told more m n (TextNamed 1 identity) false grew refl refl requests pages legal are_names;
@@ -278,6 +281,17 @@ module _ (roster : Roster) (told : List Told) (m : Kept) (has : HasServingBy ros
 
         names_are : names_told more ≡ with_text (names_told told) identity
         names_are = ap names_told grew ∙ names_of_text told identity
+
+        -- the number is that of the identity that was given
+        text_so : numbered (names_told more).texts number ≡ m.given
+        text_so =
+            ap (λ (t : Tables). numbered t.texts number) names_are
+            ∙ (ap (numbered ((names_told told).texts ++ identity ∷ [])) is
+            ∙ (numbered-last (names_told told).texts identity ∙ sym (the_given m.given (subst (λ x. need_at m x ≡ Some (TextNo identity)) at_text.1 need))))
+          where
+            the_given : (o : Option Login) → option_map TextNo o ≡ Some (TextNo identity) → o ≡ Some identity
+            the_given None e = absurd (false≢true (ap is_some e))
+            the_given (Some login) e = cc
 
         has_it : (before : List Told) (first words : List Drawn) (request : Request) → IsServing roster before told first words request m
             → HasNamed (names_told before) (names_told more) m.number m.past (record { space = None; terms = None; text = Some number })
@@ -306,7 +320,7 @@ module _ (roster : Roster) (told : List Told) (m : Kept) (has : HasServingBy ros
     text_named (Ok number) is grew same given = text_ok number is grew given
     text_named (Err free) is grew same given =
         let answers : IsTrue (is_answer m.stage NoneGiven) = subst (λ x. IsTrue (is_answer x NoneGiven)) (sym at_text.1) refl in (
-          told_given roster told m n (TextNo identity) need NoneGiven given answers more
+          told_given roster told m n (TextNo identity) need NoneGiven given answers more (no_text (names_told more) m m.stage NoneGiven refl)
               (λ words before first request serving s k. subst (λ x. IsTold s m x NoneGiven) (sym at_text.1) tt),
           subst (λ l. IsServedOnBy roster told l m n) (sym same)
               (none_on roster told m n (TextNo identity) need given answers (subst (λ x. stage_told m x NoneGiven ≡ Spent) (sym at_text.1) refl) (λ s. subst (λ x. IsTold s m x NoneGiven) (sym at_text.1) tt)),

@@ -1,5 +1,5 @@
 -- A machine that is told what the book has of what it asked is served on.
-use Rattle.std.proofs.Common.{◌≡◌, ℕ, IsTrue, List, Some, is_some, option_map, refl, sym, ap, ◌∙◌, subst}
+use Rattle.std.proofs.Common.{◌≡◌, ℕ, inl, false, IsTrue, List, Some, is_some, option_map, refl, sym, ap, ◌∙◌, subst}
 use Rattle.std.specs.Prelude.{IfOk, IfSome, Result, Ok, Err}
 use Rattle.auth_text.specs.Login.{Login}
 use Rattle.auth_text.specs.declared.items.NoMemory.{NoMemory}
@@ -40,12 +40,14 @@ use Rattle.request_machine.specs.Told.{IsLack, scheme_told}
 use Rattle.request_machine.specs.Work.{is_answer, stage_told}
 use Rattle.auth_controller.specs.Answering.{HasServingBy, IsGiven, IsGivenAs, IsSo, IsServedOnBy, identity_given, space_given, terms_given}
 use Rattle.auth_controller.specs.Serving.{IsServing, has_memory, pending_at}
+use Rattle.auth_controller.specs.Texts.{IsTextGiven}
 use Rattle.auth_controller.proofs.Answered.{asks_some, ties_here}
 use Rattle.auth_controller.proofs.Asking.{now}
 use Rattle.auth_controller.proofs.Going.{told_serving}
 use Rattle.auth_controller.proofs.NeedStages.{IsSpaceStage, identity_need, space_of_need, terms_of_need}
 use Rattle.auth_controller.proofs.NeedStages.IsSpaceStage.{asking, held}
 use Rattle.auth_controller.proofs.Readable.{identity_told, reads, space_told, terms_named, terms_told}
+use Rattle.auth_controller.proofs.Texts.{is_number, no_text}
 
 same_itself : (t : Target) → IsTrue (same_target t t)
 same_itself Server = refl
@@ -55,8 +57,8 @@ same_itself Socks = refl
 -- ANSWERS THAT ARE NO EVENTS, AND NAME NOTHING
 
 module _ (roster : Roster) (told : List Told) (m n : Kept) (need : Need) (asks : need_at m m.stage ≡ Some need) (gave : Gave) (given : IsGivenAs gave m n) (answers : IsTrue (is_answer m.stage gave)) where
-  pub told_given : (more : List Told) → IsSo roster told more m gave → IsGiven roster told more m n
-  told_given more so = record { gave = gave; as_it = given; so = so; left = given.left (asks_some m need asks) answers }
+  pub told_given : (more : List Told) → IsTextGiven (names_told more) m m.stage gave → IsSo roster told more m gave → IsGiven roster told more m n
+  told_given more text so = record { gave = gave; as_it = given; so = so; text = text; heard = inl answers; left = given.left (asks_some m need asks) answers }
 
   module _ (same : n.past ≡ m.past) (memory : IsTrue (has_memory m.stage m.past)) (waits : pending_at m.stage ≡ none_pending)
       (free : IsTrue (has_memory n.stage n.past) → pending_at n.stage ≡ none_pending)
@@ -97,9 +99,13 @@ module _ (roster : Roster) (told : List Told) (m : Kept) (has : HasServingBy ros
       answered : IsTrue (is_answer m.stage (space_given result))
       answered = subst (λ y. IsTrue (is_answer y (space_given result))) (sym is) answers
 
+      no_number : (r : Result ProtectionSpace NoMemory) → is_number (space_given r) ≡ false
+      no_number (Ok is) = refl
+      no_number (Err none) = refl
+
       at_given : IsGiven roster told told m n
       at_given =
-          told_given roster told m n (SpaceOf space) need (space_given result) given answered told
+          told_given roster told m n (SpaceOf space) need (space_given result) given answered told (no_text names m m.stage (space_given result) (no_number result))
           (λ words before first request serving s k. subst (λ y. IsTold s m y (space_given result)) (sym is) (tells words before first request serving s k))
 
       at_on : IsServedOnBy roster told told m n
@@ -160,7 +166,7 @@ module _ (roster : Roster) (told : List Told) (m : Kept) (has : HasServingBy ros
   module _ (n : Kept) (result : Result Login NoMemory) (found : IfOk result (λ is. identity roster (names_told told) (past told) gift ≡ Some is)) (given : IsGivenAs (identity_given result) m n) where
     gives : (t : Target) (h : Holding) → m.stage ≡ Learn t OfIdentity → holding m t ≡ Some h → h.gift ≡ gift → (r : Result Login NoMemory) → result ≡ r → IsGiven roster told told m n × IsServedOnBy roster told told m n
     gives t h is holds same r e = (
-      told_given roster told m n (IdentityOf gift) need (identity_given result) given (answered r e) told
+      told_given roster told m n (IdentityOf gift) need (identity_given result) given (answered r e) told (no_text (names_told told) m m.stage (identity_given result) (no_number result))
           (λ words before first request serving s k. subst (λ y. IsTold s m y (identity_given result)) (sym is) (tells words before first request serving s k result refl)),
       told_on roster told m n (IdentityOf gift) need (identity_given result) given (answered r e)
           (given.past ∙ same_past result) (subst (λ y. IsTrue (has_memory y m.past)) (sym is) refl) (ap pending_at is)
@@ -174,6 +180,10 @@ module _ (roster : Roster) (told : List Told) (m : Kept) (has : HasServingBy ros
             any : (x : Result Login NoMemory) → IsTrue (is_answer (Learn t OfIdentity) (identity_given x))
             any (Ok is) = refl
             any (Err none) = refl
+
+        no_number : (x : Result Login NoMemory) → is_number (identity_given x) ≡ false
+        no_number (Ok is) = refl
+        no_number (Err none) = refl
 
         same_past : (x : Result Login NoMemory) → past_given m (identity_given x) ≡ m.past
         same_past (Ok is) = refl
@@ -222,6 +232,10 @@ module _ (roster : Roster) (told : List Told) (m : Kept) (has : HasServingBy ros
         any (Ok is) = refl
         any (Err none) = refl
 
+    terms_no_number : (x : Result (Terms × ℕ) NoMemory) → is_number (terms_given x) ≡ false
+    terms_no_number (Ok is) = refl
+    terms_no_number (Err none) = refl
+
     terms_same_past : (x : Result (Terms × ℕ) NoMemory) → past_given m (terms_given x) ≡ m.past
     terms_same_past (Ok is) = refl
     terms_same_past (Err none) = refl
@@ -241,7 +255,7 @@ module _ (roster : Roster) (told : List Told) (m : Kept) (has : HasServingBy ros
 
     pub terms_answered : IsGiven roster told told m n × IsServedOnBy roster told told m n
     terms_answered = (
-      told_given roster told m n (TermsOf terms) need (terms_given result) given were_answered told
+      told_given roster told m n (TermsOf terms) need (terms_given result) given were_answered told (no_text (names_told told) m m.stage (terms_given result) (terms_no_number result))
           (λ words before first request serving s k. subst (λ y. IsTold s m y (terms_given result)) (sym at_terms.2) (terms_tells words before first request serving s k result refl)),
       told_on roster told m n (TermsOf terms) need (terms_given result) given were_answered
           (given.past ∙ terms_same_past result) (subst (λ y. IsTrue (has_memory y m.past)) (sym at_terms.2) refl) (ap pending_at at_terms.2)

@@ -1,5 +1,5 @@
 -- What an answer to a machine's need makes of the machine, and of what one caller serves.
-use Rattle.std.specs.Prelude.{ℕ, ◌≡◌, ◌<◌, true, false, IsTrue, List, length, Result, Ok, Err}
+use Rattle.std.specs.Prelude.{ℕ, ◌≡◌, ◌<◌, ◌⊎◌, true, false, IsTrue, List, length, Result, Ok, Err}
 use Rattle.spaces.specs.declared.roster.Request.{Request}
 use Rattle.spaces.specs.declared.roster.Roster.{Roster}
 use Rattle.spaces.specs.declared.terms.Terms.{Terms}
@@ -16,11 +16,13 @@ use Rattle.request_machine.specs.declared.gave.Gave.{Gave}
 use Rattle.request_machine.specs.declared.gave.Gave.TheVariants.{Number, Ref, Space, Identity, Terms as TermsGiven, NoMemory as NoneGiven}
 use Rattle.request_machine.specs.Gives.{IsTold, past_given}
 use Rattle.request_machine.specs.Kept.{Kept, Ties}
-use Rattle.request_machine.specs.Linked.{IsLinked}
+use Rattle.request_machine.specs.Linked.{IsLinked, is_ending, way}
+use Rattle.request_machine.specs.Prompted.{space_given as space_kept}
 use Rattle.request_machine.specs.Turns.{is_asking}
 use Rattle.request_machine.specs.Work.{is_answer, is_unspent, is_waiting, stage_told, work_left}
 use Rattle.book_laws.specs.Owners.{AddsOwn}
 use Rattle.auth_controller.specs.Serving.{IsServing}
+use Rattle.auth_controller.specs.Texts.{IsTextGiven}
 
 -- THE MACHINE
 
@@ -32,6 +34,9 @@ pub record IsGivenAs (gave : Gave) (m n : Kept) : Type 0 where
   pub link : n.link ≡ m.link
   pub links : n.links ≡ m.links
   pub linked : IsLinked m → IsLinked n
+  pub ends : is_ending (way m.stage) ≡ true → is_ending (way n.stage) ≡ true
+  pub given : n.given ≡ m.given
+  pub space : n.space ≡ space_kept m gave
   pub ties : (s : Setting) → IsTold s m m.stage gave → Ties s m → Ties s n
   pub stage : IsTrue (is_answer m.stage gave) → n.stage ≡ stage_told m m.stage gave
   pub left : is_asking m ≡ true → IsTrue (is_answer m.stage gave) → work_left n < work_left m
@@ -59,11 +64,13 @@ IsSo roster told more m gave =
     (words : List Drawn) (before : List Told) (first : List Drawn) (request : Request) → IsServing roster before told first words request m
     → (s : Setting) → KnowsBook roster m.seed (names_told more) (past more) m.number request s → IsTold s m m.stage gave
 
--- the machine was given something that is so, and less work is left
+-- the machine was given an answer or an event that is so, and less work is left
 pub record IsGiven (roster : Roster) (told more : List Told) (m n : Kept) : Type 0 where
   pub gave : Gave
   pub as_it : IsGivenAs gave m n
   pub so : IsSo roster told more m gave
+  pub text : IsTextGiven (names_told more) m m.stage gave
+  pub heard : IsTrue (is_answer m.stage gave) ⊎ (length m.past < length n.past)
   pub left : work_left n < work_left m
 
 -- the book told more of caller 1, and the machine's request is served on

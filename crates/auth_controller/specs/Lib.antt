@@ -3,5 +3,7 @@ pub mod Challenges
 pub mod FirstPath
 pub mod Serving
 pub mod Given
+pub mod Texts
+pub mod Service
 pub mod Answering
 pub mod Driving

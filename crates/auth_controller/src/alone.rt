@@ -4,18 +4,18 @@ ghost use Rattle.std.specs.Prelude.{◌≡◌, ◌≤◌, ◌*◌, ◌^◌, ℕ,
 ghost use Rattle.spaces.specs.Sites.{numbered};
 ghost use Rattle.spaces.specs.declared.roster.Request.{Request};
 ghost use Rattle.link_trait.specs.Links.{IsUndialed};
-ghost use Rattle.link_trait.specs.Told.{grown};
 ghost use Rattle.auth_events.specs.Book.{own};
 ghost use Rattle.auth_events.specs.Tables.{AreFew};
 ghost use Rattle.auth_events.specs.Told.{names_told, past};
 ghost use Rattle.plain_book.specs.Words.{draws_of};
 ghost use Rattle.trace_rule.specs.Settings.{setting_of};
-ghost use Rattle.trace_rule.specs.Telling.{dials};
+ghost use Rattle.request_machine.specs.Failed.{RoseBy, ask_faults, link_faults};
 ghost use Rattle.serving_laws.specs.Alone.{has_open_prompt};
 ghost use Rattle.serving_laws.specs.Draws.{AreEpochs};
 ghost use Rattle.serving_laws.specs.Rooms.{begun};
-ghost use Rattle.auth_controller.specs.Driving.{HasDriving, seen};
 ghost use Rattle.serving_laws.specs.Service.{IsServedAlone};
+ghost use Rattle.auth_controller.specs.Driving.{HasDriving, peers, seen};
+ghost use Rattle.auth_controller.specs.Service.{IsCarriedOut, IsPromptedOut};
 
 use crate::answers::answer;
 use auth_events::Controller;
@@ -40,9 +40,13 @@ fn serve_on<B: Controller, D: Dialer, T: Tokens, P: Prompter>(
 )
     requires roster { roster.now ≡ B.roster book.old }
     requires number { request ≡ machine.old.number }
+    requires unbegun { machine.old.past ≡ [] }
     requires driving { HasDriving roster.now
-        (seen (B.told book.old) words.old (D.dials gear.old.dialer) (D.opened gear.old.dialer))
-        (seen (B.told book.old) words.old (D.dials gear.old.dialer) (D.opened gear.old.dialer))
+        (peers (D.streams gear.old.dialer) (P.answers prompter.old))
+        (seen (B.told book.old) words.old (D.dials gear.old.dialer) (D.opened gear.old.dialer)
+        (D.traffic gear.old.dialer) (P.told prompter.old))
+        (seen (B.told book.old) words.old (D.dials gear.old.dialer) (D.opened gear.old.dialer)
+        (D.traffic gear.old.dialer) (P.told prompter.old))
         machine.old }
     ensures roster { B.roster book.new ≡ B.roster book.old }
     ensures number { machine.new.number ≡ machine.old.number }
@@ -50,9 +54,22 @@ fn serve_on<B: Controller, D: Dialer, T: Tokens, P: Prompter>(
     ensures over { machine.new.stage ≡ Stage.Over }
     ensures closed { machine.new.link ≡ None }
     ensures tokens { gear.new.tokens ≡ gear.old.tokens }
+    ensures streams { D.streams gear.new.dialer ≡ D.streams gear.old.dialer }
+    ensures answers { P.answers prompter.new ≡ P.answers prompter.old }
+    ensures faults { RoseBy D.sticks (D.faults gear.old.dialer) (link_faults machine.new.past)
+        (D.faults gear.new.dialer) }
+    ensures quiet { D.quiet gear.old.dialer → D.quiet gear.new.dialer
+        × (link_faults machine.new.past ≡ []) }
+    ensures prompt_faults { RoseBy P.sticks (P.faults prompter.old) (ask_faults machine.new.past)
+        (P.faults prompter.new) }
+    ensures prompt_quiet { P.quiet prompter.old → P.quiet prompter.new
+        × (ask_faults machine.new.past ≡ []) }
     ensures driving { HasDriving roster.now
-        (seen (B.told book.old) words.old (D.dials gear.old.dialer) (D.opened gear.old.dialer))
-        (seen (B.told book.new) words.new (D.dials gear.new.dialer) (D.opened gear.new.dialer))
+        (peers (D.streams gear.old.dialer) (P.answers prompter.old))
+        (seen (B.told book.old) words.old (D.dials gear.old.dialer) (D.opened gear.old.dialer)
+        (D.traffic gear.old.dialer) (P.told prompter.old))
+        (seen (B.told book.new) words.new (D.dials gear.new.dialer) (D.opened gear.new.dialer)
+        (D.traffic gear.new.dialer) (P.told prompter.new))
         machine.new }
 {
     loop {
@@ -97,12 +114,28 @@ pub fn serve_alone<B: Controller, D: Dialer, T: Tokens, P: Prompter>(
         → numbered roster.now.requests request ≡ Some found
         → IsServedAlone roster.now seed (B.told book.old) (B.told book.new)
         words.old words.new request found trace) }
-    ensures dialed { IfOk result (λ trace. (found : Request)
+    ensures carried { IfOk result (λ trace. (found : Request)
         → numbered roster.now.requests request ≡ Some found
-        → D.dials gear.new.dialer ≡ grown (D.dials gear.old.dialer)
-        (dials (setting_of roster.now seed (names_told (B.told book.new))
-        (past (B.told book.new)) request found) (reverse trace))) }
+        → IsCarriedOut (setting_of roster.now seed (names_told (B.told book.new))
+        (past (B.told book.new)) request found) (D.streams gear.old.dialer)
+        (D.dials gear.old.dialer) (D.dials gear.new.dialer)
+        (D.traffic gear.old.dialer) (D.traffic gear.new.dialer) trace) }
+    ensures prompted { IfOk result (λ trace. (found : Request)
+        → numbered roster.now.requests request ≡ Some found
+        → IsPromptedOut (setting_of roster.now seed (names_told (B.told book.new))
+        (past (B.told book.new)) request found) (P.answers prompter.old)
+        (names_told (B.told book.new)) (P.told prompter.old) (P.told prompter.new) trace) }
+    ensures faults { IfOk result (λ trace. RoseBy D.sticks (D.faults gear.old.dialer)
+        (link_faults (reverse trace)) (D.faults gear.new.dialer)) }
+    ensures quiet { IfOk result (λ trace. D.quiet gear.old.dialer → D.quiet gear.new.dialer
+        × (link_faults (reverse trace) ≡ [])) }
+    ensures prompt_faults { IfOk result (λ trace. RoseBy P.sticks (P.faults prompter.old)
+        (ask_faults (reverse trace)) (P.faults prompter.new)) }
+    ensures prompt_quiet { IfOk result (λ trace. P.quiet prompter.old → P.quiet prompter.new
+        × (ask_faults (reverse trace) ≡ [])) }
     ensures tokens { gear.new.tokens ≡ gear.old.tokens }
+    ensures streams { D.streams gear.new.dialer ≡ D.streams gear.old.dialer }
+    ensures answers { P.answers prompter.new ≡ P.answers prompter.old }
     ensures closed { D.opened gear.new.dialer ≡ [] }
 {
     let mut machine = Machine::new(alloc, roster, request, seed)?;
