@@ -1,0 +1,12 @@
+pub mod Moments
+pub mod Faults
+pub mod Spending
+pub mod Freshness
+pub mod Listing
+pub mod Begun
+pub mod Drawn
+pub mod Answering
+pub mod Leads
+pub mod Behind
+pub mod Making
+pub mod Whole

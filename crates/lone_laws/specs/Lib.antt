@@ -1,0 +1,4 @@
+pub mod Failing
+pub mod Lone
+pub mod Asking
+pub mod Laws
