@@ -1,8 +1,3 @@
-pub mod LinkLemmas
-pub mod PromptLemmas
-pub mod ReplyLemmas
-pub mod EventLemmas
-pub mod FirstTrace
 pub mod Retiring
 pub mod NeedStages
 pub mod Insides

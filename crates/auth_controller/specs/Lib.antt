@@ -1,6 +1,3 @@
-pub mod Links
-pub mod Challenges
-pub mod FirstPath
 pub mod Serving
 pub mod Given
 pub mod Texts
