@@ -16,8 +16,8 @@ docs/FORMATS.md says what a session and a report are, and when a line is wrong. 
 
   authfetch alone < examples/first.session
 
-So far `alone` serves sessions without requests, and those of one GET that meets one Basic
-challenge; `recorded`, `live` and `generate N` are not there yet.
+So far `alone` passes Negotiate challenges over; `recorded`, `live` and `generate N` are not
+there yet.
 
 Exit status: 0 done, 2 usage, 3 bad line, 4 read fault, 5 write fault, 6 no memory,
 7 too large, 8 too few gears. Each but 0 has its line on standard error.";
