@@ -1,16 +1,12 @@
 -- Faults aside, the text decides how a command ends.
-use Rattle.std.proofs.Common.{◌≡◌, ◌⊎◌, inl, inr, true, false, ℕ, ◌+◌, ◌<◌, List, ◌++◌, length, refl, sym, ◌∙◌, ap, arith, length-append, Option, Some, None, Result, Ok, Err, nat_lt}
+use Rattle.std.proofs.Common.{◌≡◌, ◌⊎◌, inl, inr, true, false, ℕ, ◌+◌, ◌<◌, List, ◌++◌, length, refl, sym, ◌∙◌, ap, arith, length-append, Option, Some, None, nat_lt}
 use Rattle.std.proofs.lemmas.List.{append-nil}
 use Rattle.std.proofs.lemmas.Bool.{le-ltb, lt-ltb}
 use Rattle.std.specs.Io.KnownBytes.{prepend_known, IsAtEnd}
-use Rattle.session_text.specs.declared.session.Session.{Session}
-use Rattle.session_text.specs.declared.session.SessionFault.{SessionFault}
 use Rattle.session_text.specs.declared.session.What.{What}
-use Rattle.session_text.specs.Sessions.{session, ◌>=>◌}
-use Rattle.session_text.specs.FirstPath.{first_path_leaves}
-use Rattle.auth_cli.specs.Statuses.{IsCaused, WasJudged, WasTooLong, expected, asked_by, in_form, status_of}
+use Rattle.session_text.specs.Sessions.{session}
+use Rattle.auth_cli.specs.Statuses.{IsCaused, WasJudged, WasTooLong, expected, status_of}
 use Rattle.auth_cli.specs.declared.words.Command.{Command}
-use Rattle.auth_cli.specs.declared.words.Command.TheVariants.{Check, Alone}
 use Rattle.auth_cli.specs.declared.status.Status.{Status}
 use Rattle.auth_cli.specs.declared.status.Status.TheVariants.{Done, Usage, BadSession, ReadFault, WriteFault, NoMemory, TooLarge, TooFewGears}
 
@@ -28,12 +24,12 @@ longer-input text more (Some rest) e long =
     omega (arith, l, long)
 
 -- what was judged is what the text says
-judged-as : (asked : Command) (status : Status) (text : List ℕ) (old new : Option (List ℕ)) → old ≡ Some text → WasJudged asked status old new
+judged-as : (asked : Command) (status : Status) (text : List ℕ) (old new : Option (List ℕ)) → old ≡ Some text → WasJudged status old new
     → status ≡ expected asked text
 judged-as asked status text old new told j =
     let same : text ≡ j.input = whole-input text j.input new (sym told ∙ j.read.0) j.read.1 in
     let small : nat_lt 4194304 (length text) ≡ false = le-ltb 4194304 (length text) (rw same j.short) in
-    sym (rw small (ap (λ t. status_of (asked_by asked t)) same ∙ j.judged))
+    sym (rw small (ap (λ t. status_of (session t)) same ∙ j.judged))
 
 -- what was too long is too long
 too-long : (asked : Command) (what : What) (number : ℕ) (text : List ℕ) (old new : Option (List ℕ)) → old ≡ Some text → WasTooLong what number old new
@@ -43,7 +39,7 @@ too-long asked what number text old new told w =
     rw (long, w.bytes, w.first_past) refl
 
 caused-too-large : (asked : Command) (what : What) (number : ℕ) (text : List ℕ) (old new : Option (List ℕ)) → old ≡ Some text
-    → (WasTooLong what number old new ⊎ WasJudged asked (TooLarge what number) old new) → TooLarge what number ≡ expected asked text
+    → (WasTooLong what number old new ⊎ WasJudged (TooLarge what number) old new) → TooLarge what number ≡ expected asked text
 caused-too-large asked what number text old new told (inl long) = too-long asked what number text old new told long
 caused-too-large asked what number text old new told (inr judged) = judged-as asked (TooLarge what number) text old new told judged
 
@@ -59,17 +55,3 @@ complete WriteFault asked text old new Read Write cause rf wf told r w = absurd 
 complete NoMemory asked text old new Read Write cause rf wf told r w = inr refl
 complete (TooLarge what number) asked text old new Read Write cause rf wf told r w = inl (caused-too-large asked what number text old new told cause)
 complete (TooFewGears wanted given) asked text old new Read Write cause rf wf told r w = absurd cause
-
--- what a command serves is the session of the text
-
-in-form-is : (leaves : Option ℕ) (s t : Session) → in_form leaves s ≡ Ok t → s ≡ t
-in-form-is None s t is = cc
-in-form-is (Some line) s t is = cc
-
-bound-is : (read : Result Session SessionFault) (leaves : Option ℕ) (t : Session) → (read >=> in_form leaves) ≡ Ok t → read ≡ Ok t
-bound-is (Ok s) leaves t is = ap Ok (in-form-is leaves s t is)
-bound-is (Err fault) leaves t is = cc
-
-pub asked-is : (asker : Command) (text : List ℕ) (t : Session) → asked_by asker text ≡ Ok t → session text ≡ Ok t
-asked-is Check text t is = is
-asked-is Alone text t is = bound-is (session text) (first_path_leaves text) t is

@@ -1,5 +1,5 @@
 pub mod Growing
 pub mod Complete
 pub mod Made
-pub mod FirstLemmas
-pub mod Served
+pub mod Few
+pub mod Lone

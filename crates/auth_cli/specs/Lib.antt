@@ -2,5 +2,4 @@ pub mod Whole
 pub mod Commands
 pub mod Statuses
 pub mod Headline
-pub mod Served
 pub mod Standard

@@ -1,27 +1,15 @@
 -- What a status says of the input and the output.
-use Rattle.std.specs.Prelude.{ℕ, ◌≡◌, ◌≤◌, ◌⊎◌, nat_lt, List, length, Option, None, Some, Result, Ok, Err, if◌then◌else◌}
+use Rattle.std.specs.Prelude.{ℕ, ◌≡◌, ◌≤◌, ◌⊎◌, nat_lt, List, length, Option, Result, Ok, Err, if◌then◌else◌}
 use Rattle.session_text.specs.declared.session.Session.{Session}
 use Rattle.session_text.specs.declared.session.SessionFault.{SessionFault}
 use Rattle.session_text.specs.declared.session.SessionFault.TheVariants.{BadLine, TooMany, NoMemory as NoRoom}
 use Rattle.session_text.specs.declared.session.What.{What}
 use Rattle.session_text.specs.declared.session.What.TheVariants.{Bytes}
-use Rattle.session_text.specs.Sessions.{session, ◌>=>◌}
-use Rattle.session_text.specs.FirstPath.{first_path_leaves}
+use Rattle.session_text.specs.Sessions.{session}
 use Rattle.auth_cli.specs.declared.words.Command.{Command}
-use Rattle.auth_cli.specs.declared.words.Command.TheVariants.{Check, Alone}
 use Rattle.auth_cli.specs.declared.status.Status.{Status}
 use Rattle.auth_cli.specs.declared.status.Status.TheVariants.{Done, Usage, BadSession, ReadFault, WriteFault, NoMemory, TooLarge, TooFewGears}
 use Rattle.auth_cli.specs.Whole.{WasRead, WasReadPast}
-
--- so far `alone` serves the sessions of one form, and refuses the others at the first line that leaves it
-abbrev pub in_form : Option ℕ → Session → Result Session SessionFault
-in_form None asked = Ok asked
-in_form (Some line) asked = Err (BadLine line)
-
--- the session that a command serves, or why it serves none: the first line at fault goes before a line that leaves the form
-abbrev pub asked_by : Command → List ℕ → Result Session SessionFault
-asked_by Check text = session text
-asked_by Alone text = session text >=> in_form (first_path_leaves text)
 
 abbrev pub refused : SessionFault → Status
 refused (BadLine line) = BadSession line
@@ -34,14 +22,14 @@ status_of (Err fault) = refused fault
 
 -- how a command ends where nothing fails: the size goes before the lines
 abbrev pub expected : Command → List ℕ → Status
-expected asked text = if nat_lt 4194304 (length text) then TooLarge Bytes 4194305 else status_of (asked_by asked text)
+expected asked text = if nat_lt 4194304 (length text) then TooLarge Bytes 4194305 else status_of (session text)
 
 -- the input was read to its end, has no more bytes than a session may have, and has that status
-pub record WasJudged (asked : Command) (status : Status) (left_old left_new : Option (List ℕ)) : Type 0 where
+pub record WasJudged (status : Status) (left_old left_new : Option (List ℕ)) : Type 0 where
   pub input : List ℕ
   pub read : WasRead left_old left_new input
   pub short : length input ≤ 4194304
-  pub judged : status_of (asked_by asked input) ≡ status
+  pub judged : status_of (session input) ≡ status
 
 -- more bytes were read than a session may have
 pub record WasTooLong (what : What) (number : ℕ) (left_old left_new : Option (List ℕ)) : Type 0 where
@@ -51,10 +39,10 @@ pub record WasTooLong (what : What) (number : ℕ) (left_old left_new : Option (
 
 -- what a status shows of the input
 abbrev pub IsCaused : Command → Status → Option (List ℕ) → Option (List ℕ) → Type 0
-IsCaused asked Done left_old left_new = WasJudged asked Done left_old left_new
-IsCaused asked (BadSession line) left_old left_new = WasJudged asked (BadSession line) left_old left_new
+IsCaused asked Done left_old left_new = WasJudged Done left_old left_new
+IsCaused asked (BadSession line) left_old left_new = WasJudged (BadSession line) left_old left_new
 IsCaused asked (TooLarge what number) left_old left_new =
-    WasTooLong what number left_old left_new ⊎ WasJudged asked (TooLarge what number) left_old left_new
+    WasTooLong what number left_old left_new ⊎ WasJudged (TooLarge what number) left_old left_new
 -- the words are a command, and no command asks for gears so far
 IsCaused asked Usage left_old left_new = ⊥
 IsCaused asked (TooFewGears wanted given) left_old left_new = ⊥
@@ -63,12 +51,12 @@ IsCaused asked NoMemory left_old left_new = Unit {0}
 IsCaused asked ReadFault left_old left_new = Unit {0}
 IsCaused asked WriteFault left_old left_new = Unit {0}
 
--- the session that the command serves was read, to the input's end
-pub record WasAsked (asker : Command) (asked : Session) (left_old left_new : Option (List ℕ)) : Type 0 where
+-- the session was read, to the input's end
+pub record WasAsked (asked : Session) (left_old left_new : Option (List ℕ)) : Type 0 where
   pub input : List ℕ
   pub read : WasRead left_old left_new input
   pub short : length input ≤ 4194304
-  pub is_asked : asked_by asker input ≡ Ok asked
+  pub is_asked : session input ≡ Ok asked
 
 -- a status by which a command ends before it serves anything
 abbrev pub IsStop : Status → Type 0

@@ -1,7 +1,6 @@
 //! The top calls: a command's words and an input in, a text and a status out.
 #![tactic(auto)]
 
-mod first;
 mod serve;
 mod standard;
 mod status;

@@ -2,11 +2,9 @@
 //! comes together in their clauses.
 
 ghost use Rattle.std.specs.Prelude.{◌≡◌, ◌⊎◌, ◌≤◌, ◌↔◌, length, Some, None, List, ℕ, IfOk, IfErr, IsErrOf};
-ghost use Rattle.auth_text.specs.Gives.{GivesBy};
 ghost use Rattle.link_trait.specs.Faults.{Rose};
-ghost use Rattle.session_text.specs.FirstPath.{first_path_leaves};
 ghost use Rattle.auth_cli.specs.Commands.{command};
-ghost use Rattle.auth_cli.specs.Statuses.{IsCaused, IsSilent, IsStop, WasAsked, asked_by, in_form, expected};
+ghost use Rattle.auth_cli.specs.Statuses.{IsCaused, IsSilent, IsStop, WasAsked, expected};
 ghost use Rattle.auth_cli.specs.Headline.{IsServed, IsServedInPart};
 
 use crate::serve::text_for;
@@ -14,9 +12,9 @@ use crate::status::{Status, refused};
 use crate::streams::{ReadStop, WriteStop, read_whole, write_whole};
 use crate::words::{Command, Word, command_of};
 use auth_controller::Gear;
-use auth_text::{Items, NoMemory};
+use auth_text::Items;
 use link_trait::{Dialer, Sink, Source, Tokens};
-use session_text::{Session, SessionFault, What, first_path_leaves, read_session};
+use session_text::{Session, What, read_session};
 use std::alloc::Global;
 
 /// The status of an input with more bytes than a session may have.
@@ -28,36 +26,11 @@ const TOO_LONG: Status = Status::TooLarge {
 /// What workers serve requests by, one gear for each.
 pub type Gears<D, T> = Items<Gear<D, T>>;
 
-/// The session, where its text keeps the form that is served so far.
-fn in_form(alloc: Global, text: &[u8], session: Session) -> Result<Session, SessionFault>
-    ensures { GivesBy SessionFault.NoMemory (λ asked. asked) result (in_form (first_path_leaves text.now) session) }
-{
-    match first_path_leaves(alloc, text) {
-        Ok(None) => Ok(session),
-        Ok(Some(line)) => Err(SessionFault::BadLine { line }),
-        Err(_) => Err(SessionFault::NoMemory),
-    }
-}
-
-/// The session that a command serves.
-fn asked_by(alloc: Global, command: Command, text: &[u8]) -> Result<Session, SessionFault>
-    requires { length text.now ≤ 4194304 }
-    ensures { GivesBy SessionFault.NoMemory (λ asked. asked) result (asked_by command text.now) }
-{
-    let session = match read_session(alloc, text) {
-        Ok(session) => session,
-        Err(fault) => return Err(fault),
-    };
-    match command {
-        Command::Check => Ok(session),
-        Command::Alone => in_form(alloc, text, session),
-    }
-}
-
-/// Reads the session that a command is to serve.
-fn read_asked<S: Source>(alloc: Global, command: Command, input: &mut S) -> Result<Session, Status>
-    ensures asked { IfOk result (λ asked. WasAsked command asked (S.left input.old) (S.left input.new)) }
-    ensures caused { IfErr result (λ status. IsCaused command status (S.left input.old) (S.left input.new)) }
+/// Reads a session.
+fn read_asked<S: Source>(alloc: Global, input: &mut S) -> Result<Session, Status>
+    ensures asked { IfOk result (λ asked. WasAsked asked (S.left input.old) (S.left input.new)) }
+    ensures few { IfOk result (λ asked. length asked.roster.requests ≤ 2048) }
+    ensures caused { (command : Command) → IfErr result (λ status. IsCaused command status (S.left input.old) (S.left input.new)) }
     ensures stop { IfErr result (λ status. IsStop status) }
     ensures fault { IsErrOf result Status.ReadFault → Rose S.sticks (S.faults input.old) (S.faults input.new) }
     ensures later { S.faults input.old ≤ S.faults input.new }
@@ -68,7 +41,7 @@ fn read_asked<S: Source>(alloc: Global, command: Command, input: &mut S) -> Resu
         Err(ReadStop::TooLarge) => return Err(TOO_LONG),
         Err(ReadStop::NoMemory) => return Err(Status::NoMemory),
     };
-    match asked_by(alloc, command, text.as_slice()) {
+    match read_session(alloc, text.as_slice()) {
         Ok(session) => Ok(session),
         Err(fault) => Err(refused(fault)),
     }
@@ -95,7 +68,7 @@ fn serve<S: Source, K: Sink>(
     ensures input_later { S.faults input.old ≤ S.faults input.new }
     ensures output_later { K.faults output.old ≤ K.faults output.new }
 {
-    let session = match read_asked(alloc, command, input) {
+    let session = match read_asked(alloc, input) {
         Ok(session) => session,
         Err(status) => return status,
     };

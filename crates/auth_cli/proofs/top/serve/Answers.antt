@@ -8,3 +8,6 @@ returns-clause-spent g c spent = inr (
   made_of c.args.command c.args.seed c.in-Ok.session _ _ c.in-Ok-text_for.text c.in-Ok.ensures.asked c.in-Ok-text_for.ensures,
   rw c.as_slice.ensures at c.in-Err-NoMemory.ensures.part,
 )
+
+pub returns-in-Err-clause-caused : goal.returns-in-Err-clause-caused
+returns-in-Err-clause-caused g c = c.in-Err.ensures.caused c.args.command
