@@ -3,14 +3,11 @@
 
 mod counts;
 mod cut;
-mod first_path;
-mod first_path_parts;
 mod line;
 mod session;
 mod values;
 mod word;
 
 pub use counts::counts_of;
-pub use first_path::first_path_leaves;
 pub use session::{Session, SessionFault, What, read_session};
 pub use word::{read_word, word_law, write_word};

@@ -2,8 +2,6 @@
 #![tactic(auto)]
 
 #[cfg(test)]
-mod first_path;
-#[cfg(test)]
 mod sessions;
 #[cfg(test)]
 mod words;
