@@ -3,3 +3,4 @@ pub mod Complete
 pub mod Made
 pub mod Few
 pub mod Lone
+pub mod ClosedReports
