@@ -151,7 +151,6 @@ to_reject s m link reply x h offered same is may held_x decides fresh few t =
         reads_past s m link (Replied link reply) same t (refl, may),
         ap (carried_out s (Replied link reply ∷ m.past)) (moves_decided s m link reply x h offered is held_x decides few t ∙ fresh),
         held_x.of_target,
-        is,
       );
       ended = no_end;
       may_stop = rw no_end refl;

@@ -5,6 +5,7 @@ ghost use Rattle.request_machine.specs.Told.{unless_it};
 
 use crate::known::bare;
 use crate::machine::Machine;
+use crate::read::challenged_told;
 use crate::stage::{Closing, Stage};
 use auth_events::{BookReply, Call, Gift};
 use auth_runs::{Event, Outcome, Why};
@@ -17,7 +18,8 @@ impl Machine {
     ghost use Rattle.trace_rule.specs.Traces.{suits};
     ghost use Rattle.request_machine.specs.Chosen.{IsBest};
     ghost use Rattle.request_machine.specs.Turns.{is_asking};
-    ghost use Rattle.request_machine.specs.Linked.{line, way, goes_on};
+    ghost use Rattle.request_machine.specs.Linked.{line, way, goes_on, is_away};
+    ghost use Rattle.request_machine.specs.Replies.{challenged_told, stage_again};
     ghost use Rattle.request_machine.specs.Kept.{Ties};
     ghost use Rattle.request_machine.specs.Told.{held_chosen, held_rejected};
 
@@ -147,7 +149,22 @@ impl Machine {
             reply,
         });
         self.drop_held(target);
-        self.stage = Stage::Choose(target);
+        self.choose_again();
+    }
+
+    /// The best challenge of the last reply is chosen, once more. Where that challenged nobody nothing
+    /// can follow, and the request ends as for want of memory.
+    pub(crate) fn choose_again(&mut self)
+        ensures same { self.new ≡ record self.old {
+          stage = stage_again (challenged_told self.old.is_proxied self.old.code);
+        } }
+        ensures away { IsTrue (is_away (way self.new.stage)) }
+        ensures free { is_waiting self.new.stage ≡ false }
+    {
+        match challenged_told(self.is_proxied, self.code) {
+            Some(target) => self.stage = Stage::Choose(target),
+            None => self.stage = Stage::Spent,
+        }
     }
 
     pub(crate) fn drop_held(&mut self, target: Target)

@@ -1,6 +1,6 @@
 use Rattle.std.proofs.Common.{sym, subst, ap, ◌∙◌}
 use Rattle.spaces.specs.declared.site.Target.TheVariants.{Server, Proxy}
-use Rattle.request_machine.specs.declared.stage.Stage.TheVariants.{Choose}
+use Rattle.request_machine.specs.Replies.{challenged_told, stage_again}
 use Rattle.request_machine.specs.Told.{held_rejected}
 use Rattle.request_machine.specs.Kept.{Kept, Ties}
 use Rattle.request_machine.proofs.Rejected.{rejected_ties}
@@ -8,7 +8,8 @@ use Rattle.request_machine.proofs.machine.Machine.rejected.Goals as goal
 
 pub returns-clause-ties : goal.returns-clause-ties
 returns-clause-ties c = λ s suited t.
-    subst (λ (v : Kept). Ties s (record v { stage = Choose c.args.target }))
-    (sym (c.self.view_is ∙ c.drop_held.ensures
-    ∙ ap (λ (m : Kept). record m { proxy = held_rejected c.args.target Proxy m.proxy; server = held_rejected c.args.target Server m.server }) c.push.ensures))
+    subst (Ties s)
+    (sym (c.choose_again.ensures.same
+    ∙ ap (λ (v : Kept). record v { stage = stage_again (challenged_told v.is_proxied v.code) }) (c.drop_held.ensures
+    ∙ ap (λ (m : Kept). record m { proxy = held_rejected c.args.target Proxy m.proxy; server = held_rejected c.args.target Server m.server }) c.push.ensures)))
     (rejected_ties s c.args.self.now c.args.target c.args.gift c.args.reply c.requires.stage suited t)
