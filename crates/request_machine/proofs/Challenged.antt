@@ -12,16 +12,15 @@ use Rattle.auth_runs.specs.declared.event.Event.TheVariants.{Replied}
 use Rattle.auth_runs.specs.declared.event.Outcome.TheVariants.{Refused}
 use Rattle.auth_runs.specs.declared.event.Why.TheVariants.{Rounds}
 use Rattle.trace_rule.specs.Settings.{Setting, is_by_path}
-use Rattle.trace_rule.specs.Challenges.{Offer, challenged, challenges_target}
+use Rattle.trace_rule.specs.Challenges.{challenged, challenges_target}
 use Rattle.trace_rule.specs.Holding.{Held, Decision, held, held_replied, carried, deciding}
-use Rattle.trace_rule.specs.Holding.Decision.{Offering}
-use Rattle.trace_rule.specs.Moves.{rejects, Move, move, replied, weighed, decided, renewed, select, rounds}
+use Rattle.trace_rule.specs.Moves.{rejects, Move, move, replied, weighed, decided, select, rounds}
 use Rattle.trace_rule.specs.Closings.{carried_out, closings, note_for, note_of, is_challenged}
 use Rattle.trace_rule.specs.Moves.Move.{Closes}
-use Rattle.trace_rule.specs.Traces.{is_end, can_be}
+use Rattle.trace_rule.specs.Traces.{is_end, can_be, may_cut}
 use Rattle.request_machine.specs.declared.holding.Holding.{Holding}
 use Rattle.request_machine.specs.declared.stage.Stage.{Stage}
-use Rattle.request_machine.specs.declared.stage.Stage.TheVariants.{Reject as Rejecting, NameRenewal, Read, Choose, Close}
+use Rattle.request_machine.specs.declared.stage.Stage.TheVariants.{Reject as Rejecting, NameRenewal, Read, Choose, Close, Spent}
 use Rattle.request_machine.specs.Kept.{IsKept, Kept, Ties, IsHeld, held_kept, is_after_end, gift_by_path, note_call}
 use Rattle.request_machine.specs.Told.{unless_it}
 use Rattle.request_machine.proofs.Quiet.{IsNext, same_held}
@@ -123,10 +122,10 @@ to_choose s m link reply x h same is may held_x undecided few t =
     at None u = refl
     at (Some y) u = ap (decided s (Replied link reply ∷ m.past) link reply.stays x (held_kept y)) u
 
--- the challenge that decides renews or rejects what is held
-pub moves_decided : (s : Setting) (m : Kept) (link : ℕ) (reply : Reply) (t : Target) (h : Holding) (offered : Offer) → challenged s reply ≡ Some t → IsHeld s m.past t (Some h) → deciding s reply t (held_kept h) ≡ Some (Offering offered)
-    → nat_le 17 (m.rounds + 1) ≡ false → Ties s m → move s (Replied link reply ∷ m.past) ≡ renewed s (held_kept h) offered.stale offered.terms
-moves_decided s m link reply x h offered is held_x decides few t =
+-- by the challenge that decides on what is held
+pub moves_decided : (s : Setting) (m : Kept) (link : ℕ) (reply : Reply) (t : Target) (h : Holding) (decision : Decision) → challenged s reply ≡ Some t → IsHeld s m.past t (Some h) → deciding s reply t (held_kept h) ≡ Some decision
+    → nat_le 17 (m.rounds + 1) ≡ false → Ties s m → move s (Replied link reply ∷ m.past) ≡ decided s (Replied link reply ∷ m.past) link reply.stays t (held_kept h) (Some decision)
+moves_decided s m link reply x h decision is held_x decides few t =
     moved s m link reply x (Some h) false is held_x few t ∙ ap (decided s (Replied link reply ∷ m.past) link reply.stays x (held_kept h)) decides
 
 -- where it is stale, its terms are to be named
@@ -141,20 +140,33 @@ to_renew s m link reply x h same is may held_x t =
       open_still = only_end s m (Read link) same t (λ n e. e);
     }
 
--- a challenge that isn't stale rejects what is held
-pub to_reject : (s : Setting) (m : Kept) (link : ℕ) (reply : Reply) (t : Target) (h : Holding) (offered : Offer) → m.stage ≡ Read link → challenged s reply ≡ Some t → IsTrue (can_be reply) → IsHeld s m.past t (Some h)
-    → deciding s reply t (held_kept h) ≡ Some (Offering offered) → renewed s (held_kept h) offered.stale offered.terms ≡ rejects (held_kept h) → nat_le 17 (m.rounds + 1) ≡ false → Ties s m → IsNext s (Replied link reply ∷ m.past) (Rejecting t h.gift)
-to_reject s m link reply x h offered same is may held_x decides fresh few t =
+-- a challenge that rejects what is held
+pub to_reject : (s : Setting) (m : Kept) (link : ℕ) (reply : Reply) (t : Target) (h : Holding) (decision : Decision) → m.stage ≡ Read link → challenged s reply ≡ Some t → IsTrue (can_be reply) → IsHeld s m.past t (Some h)
+    → deciding s reply t (held_kept h) ≡ Some decision → decided s (Replied link reply ∷ m.past) link reply.stays t (held_kept h) (Some decision) ≡ rejects (held_kept h) → nat_le 17 (m.rounds + 1) ≡ false → Ties s m
+    → IsNext s (Replied link reply ∷ m.past) (Rejecting t h.gift)
+to_reject s m link reply x h decision same is may held_x decides fresh few t =
     let no_end : list_any is_end m.past ≡ false = t.ended ∙ ap is_after_end same in
     record {
       stands = (
         reads_past s m link (Replied link reply) same t (refl, may),
-        ap (carried_out s (Replied link reply ∷ m.past)) (moves_decided s m link reply x h offered is held_x decides few t ∙ fresh),
+        ap (carried_out s (Replied link reply ∷ m.past)) (moves_decided s m link reply x h decision is held_x decides few t ∙ fresh),
         held_x.of_target,
       );
       ended = no_end;
       may_stop = rw no_end refl;
       open_still = only_end s m (Read link) same t (λ n e. e);
+    }
+
+-- memory runs out behind it
+pub to_spend : (s : Setting) (m : Kept) (link : ℕ) (reply : Reply) → m.stage ≡ Read link → IsTrue (can_be reply) → Ties s m → IsNext s (Replied link reply ∷ m.past) Spent
+to_spend s m link reply same may t =
+    let no_end : list_any is_end m.past ≡ false = t.ended ∙ ap is_after_end same in
+    let cut : may_cut (Replied link reply ∷ m.past) ≡ true = rw no_end refl in
+    record {
+      stands = record { is_past = reads_past s m link (Replied link reply) same t (refl, may); may_cut = cut };
+      ended = no_end;
+      may_stop = cut;
+      open_still = tt;
     }
 
 -- the seventeenth round ends the request, and notes what was carried for the other target

@@ -14,17 +14,19 @@ use Rattle.trace_rule.specs.Challenges.{Offer, challenged, challenges_target}
 use Rattle.trace_rule.specs.Holding.{Held, Decision, deciding}
 use Rattle.trace_rule.specs.Holding.Decision.{Offering}
 use Rattle.auth_events.specs.declared.journal.Call.TheVariants.{Renew}
-use Rattle.trace_rule.specs.Moves.{renewed, rejects, known}
+use Rattle.trace_rule.specs.Moves.{decided, renewed, rejects, known}
 use Rattle.trace_rule.specs.Moves.Want.{Calls}
 use Rattle.trace_rule.specs.Moves.Move.{Goes}
 use Rattle.trace_rule.specs.Traces.{can_be}
 use Rattle.request_machine.specs.declared.holding.Holding.{Holding}
-use Rattle.request_machine.specs.declared.stage.Stage.TheVariants.{Reject as Rejecting, NameRenewal, Read, Choose, Close}
-use Rattle.request_machine.specs.Kept.{Kept, Ties, IsHeld, IsStale, held_kept}
+use Rattle.request_machine.specs.declared.stage.Stage.{Stage}
+use Rattle.request_machine.specs.declared.stage.Stage.TheVariants.{Reject as Rejecting, NameRenewal, Read, Choose, Close, Spent}
+use Rattle.request_machine.specs.Kept.{Kept, Ties, IsKept, IsHeld, held_kept}
 use Rattle.request_machine.specs.Chosen.{stale_terms}
 use Rattle.request_machine.specs.Changed.{holding}
 use Rattle.request_machine.specs.Told.{held_rejected, held_last, unless_it}
-use Rattle.request_machine.proofs.Challenged.{challenge_ties, challenges_it, held_elsewhere, held_challenged, kept_decided, nothing_held, to_choose, to_reject, to_renew, to_rounds, moves_decided}
+use Rattle.request_machine.proofs.Challenged.{challenge_ties, challenges_it, held_elsewhere, held_challenged, kept_decided, nothing_held, to_choose, to_reject, to_renew, to_rounds, to_spend, moves_decided}
+use Rattle.request_machine.proofs.Quiet.{IsNext}
 use Rattle.request_machine.proofs.Reading.{read_unnamed}
 
 -- the reply challenges the target, and decides nothing on what is held for it
@@ -33,14 +35,14 @@ pub record IsUndecided (s : Setting) (m : Kept) (reply : Reply) (t : Target) : T
   pub undecided : IfSome (holding m t) (λ h. deciding s reply t (held_kept h) ≡ None)
 
 -- a challenge of the target decides on what is held
-pub record IsDecided (s : Setting) (m : Kept) (reply : Reply) (t : Target) (h : Holding) (offered : Offer) : Type 0 where
+pub record IsDecided (s : Setting) (m : Kept) (reply : Reply) (t : Target) (h : Holding) (decision : Decision) : Type 0 where
   pub target : challenged s reply ≡ Some t
   pub held : holding m t ≡ Some h
-  pub decides : deciding s reply t (held_kept h) ≡ Some (Offering offered)
+  pub decides : deciding s reply t (held_kept h) ≡ Some decision
 
--- it is stale, and has terms
-abbrev pub is_renewal : Offer → Bool
-is_renewal offered = offered.stale && is_some offered.terms
+-- it rejects it, whatever happened before
+pub record IsRejection (s : Setting) (t : Target) (h : Holding) (decision : Decision) : Type 0 where
+  pub rejects : (past : List Event) (link : ℕ) (stays : Bool) → decided s past link stays t (held_kept h) (Some decision) ≡ rejects (held_kept h)
 
 -- the reply challenges the target, and decides on what is held for it, or doesn't
 pub record IsLast (s : Setting) (m : Kept) (reply : Reply) (t : Target) (kept : Bool) : Type 0 where
@@ -74,30 +76,40 @@ undecided_ties s m link reply Server same may few is t =
     (to_choose s m link reply Server m.server same is.target may t.server is.undecided few t)
 undecided_ties s m link reply Socks same may few is t = absurd (no_socks s reply is.target)
 
--- a challenge that brings no terms to renew rejects what is held
-not_renewed : (s : Setting) (h : Held) (stale : Bool) (terms : Option Terms) → (stale && is_some terms) ≡ false → renewed s h stale terms ≡ rejects h
-not_renewed s h true None e = refl
-not_renewed s h true (Some terms) e = absurd (false≢true (sym e))
-not_renewed s h false None e = refl
-not_renewed s h false (Some terms) e = refl
+decided_held : (s : Setting) (past : List Event) (link : ℕ) (reply : Reply) (t : Target) (o : Option Holding) (h : Holding) (decision : Decision) → challenges_target s reply t ≡ true → o ≡ Some h
+    → deciding s reply t (held_kept h) ≡ Some decision → IsHeld s past t o → IsHeld s (Replied link reply ∷ past) t o
+decided_held s past link reply t o h decision met same decides is =
+    subst (λ x. IsHeld s (Replied link reply ∷ past) t x) (sym same) (held_challenged s past link reply t h (Some decision) met decides (subst (λ x. IsHeld s past t x) same is))
 
-decided_held : (s : Setting) (past : List Event) (link : ℕ) (reply : Reply) (t : Target) (o : Option Holding) (h : Holding) (offered : Offer) → challenges_target s reply t ≡ true → o ≡ Some h
-    → deciding s reply t (held_kept h) ≡ Some (Offering offered) → IsHeld s past t o → IsHeld s (Replied link reply ∷ past) t o
-decided_held s past link reply t o h offered met same decides is =
-    subst (λ x. IsHeld s (Replied link reply ∷ past) t x) (sym same) (held_challenged s past link reply t h (Some (Offering offered)) met decides (subst (λ x. IsHeld s past t x) same is))
+-- what is held stays, and the stage behind it is given
+decided_ties : (s : Setting) (m : Kept) (link : ℕ) (reply : Reply) (t : Target) (h : Holding) (decision : Decision) (stage : Stage) → m.stage ≡ Read link → IsDecided s m reply t h decision
+    → IsKept s (record m { past = Replied link reply ∷ m.past; stage = stage; rounds = m.rounds + 1; code = reply.code }) stage
+    → IsNext s (Replied link reply ∷ m.past) stage → Ties s m
+    → Ties s (record m { past = Replied link reply ∷ m.past; stage = stage; rounds = m.rounds + 1; code = reply.code })
+decided_ties s m link reply Proxy h decision stage same is kept next t =
+    challenge_ties s m link reply Proxy stage m.proxy m.server same is.target t kept
+    (decided_held s m.past link reply Proxy m.proxy h decision (challenges_it s reply Proxy Proxy is.target) is.held is.decides t.proxy) (held_elsewhere s m.past link reply Proxy Server m.server is.target refl t.server) next
+decided_ties s m link reply Server h decision stage same is kept next t =
+    challenge_ties s m link reply Server stage m.proxy m.server same is.target t kept
+    (held_elsewhere s m.past link reply Server Proxy m.proxy is.target refl t.proxy) (decided_held s m.past link reply Server m.server h decision (challenges_it s reply Server Server is.target) is.held is.decides t.server) next
+decided_ties s m link reply Socks h decision stage same is kept next t = absurd (no_socks s reply is.target)
 
-pub rejects_ties : (s : Setting) (m : Kept) (link : ℕ) (reply : Reply) (t : Target) (h : Holding) (offered : Offer) → m.stage ≡ Read link → IsTrue (can_be reply) → nat_le 17 (m.rounds + 1) ≡ false
-    → IsDecided s m reply t h offered → is_renewal offered ≡ false → Ties s m
+held_at : (s : Setting) (m : Kept) (reply : Reply) (t : Target) (h : Holding) (decision : Decision) → IsDecided s m reply t h decision → Ties s m → IsHeld s m.past t (Some h)
+held_at s m reply Proxy h decision is t = subst (λ x. IsHeld s m.past Proxy x) is.held t.proxy
+held_at s m reply Server h decision is t = subst (λ x. IsHeld s m.past Server x) is.held t.server
+held_at s m reply Socks h decision is t = absurd (no_socks s reply is.target)
+
+pub rejects_ties : (s : Setting) (m : Kept) (link : ℕ) (reply : Reply) (t : Target) (h : Holding) (decision : Decision) → m.stage ≡ Read link → IsTrue (can_be reply) → nat_le 17 (m.rounds + 1) ≡ false
+    → IsDecided s m reply t h decision → IsRejection s t h decision → Ties s m
     → Ties s (record m { past = Replied link reply ∷ m.past; stage = Rejecting t h.gift; rounds = m.rounds + 1; code = reply.code })
-rejects_ties s m link reply Proxy h offered same may few is fresh t =
-    challenge_ties s m link reply Proxy (Rejecting Proxy h.gift) m.proxy m.server same is.target t tt
-    (decided_held s m.past link reply Proxy m.proxy h offered (challenges_it s reply Proxy Proxy is.target) is.held is.decides t.proxy) (held_elsewhere s m.past link reply Proxy Server m.server is.target refl t.server)
-    (to_reject s m link reply Proxy h offered same is.target may (subst (λ x. IsHeld s m.past Proxy x) is.held t.proxy) is.decides (not_renewed s (held_kept h) offered.stale offered.terms fresh) few t)
-rejects_ties s m link reply Server h offered same may few is fresh t =
-    challenge_ties s m link reply Server (Rejecting Server h.gift) m.proxy m.server same is.target t tt
-    (held_elsewhere s m.past link reply Server Proxy m.proxy is.target refl t.proxy) (decided_held s m.past link reply Server m.server h offered (challenges_it s reply Server Server is.target) is.held is.decides t.server)
-    (to_reject s m link reply Server h offered same is.target may (subst (λ x. IsHeld s m.past Server x) is.held t.server) is.decides (not_renewed s (held_kept h) offered.stale offered.terms fresh) few t)
-rejects_ties s m link reply Socks h offered same may few is fresh t = absurd (no_socks s reply is.target)
+rejects_ties s m link reply x h decision same may few is fresh t =
+    decided_ties s m link reply x h decision (Rejecting x h.gift) same is tt
+    (to_reject s m link reply x h decision same is.target may (held_at s m reply x h decision is t) is.decides (fresh.rejects (Replied link reply ∷ m.past) link reply.stays) few t) t
+
+-- memory runs out
+pub spent_behind : (s : Setting) (m : Kept) (link : ℕ) (reply : Reply) (t : Target) (h : Holding) (decision : Decision) → m.stage ≡ Read link → IsTrue (can_be reply) → IsDecided s m reply t h decision → Ties s m
+    → Ties s (record m { past = Replied link reply ∷ m.past; stage = Spent; rounds = m.rounds + 1; code = reply.code })
+spent_behind s m link reply x h decision same may is t = decided_ties s m link reply x h decision Spent same is tt (to_spend s m link reply same may t) t
 
 -- the seventeenth round
 last_held : (s : Setting) (past : List Event) (link : ℕ) (reply : Reply) (t : Target) (h : Option Holding) (kept : Bool) → challenges_target s reply t ≡ true
@@ -141,27 +153,21 @@ renews s h offered terms = at offered.stale offered.terms
     at false o e = absurd (cc)
 
 -- a stale challenge: its terms are to be named, for the gift that is held
-stale_next : (s : Setting) (m : Kept) (link : ℕ) (reply : Reply) (t : Target) (h : Holding) (offered : Offer) (terms : Terms) → m.stage ≡ Read link → IsTrue (can_be reply) → nat_le 17 (m.rounds + 1) ≡ false → challenged s reply ≡ Some t → IsHeld s m.past t (Some h)
-    → deciding s reply t (held_kept h) ≡ Some (Offering offered) → stale_terms offered ≡ Some terms → Ties s m → IsStale s (Replied link reply ∷ m.past) (Some terms) h.gift
-stale_next s m link reply t h offered terms same may few is held_t decides stale ties = record {
-  terms = terms;
-  are_unnamed = refl;
-  moves = moves_decided s m link reply t h offered is held_t decides few ties ∙ renews s (held_kept h) offered terms stale;
-}
-
 pub stale_ties : (s : Setting) (m : Kept) (link : ℕ) (reply : Reply) (t : Target) (h : Holding) (offered : Offer) (terms : Terms) → m.stage ≡ Read link → IsTrue (can_be reply) → nat_le 17 (m.rounds + 1) ≡ false
-    → IsDecided s m reply t h offered → stale_terms offered ≡ Some terms → Ties s m
+    → IsDecided s m reply t h (Offering offered) → stale_terms offered ≡ Some terms → Ties s m
     → Ties s (record m { past = Replied link reply ∷ m.past; stage = NameRenewal t h.gift; rounds = m.rounds + 1; code = reply.code; unnamed_terms = Some terms })
-stale_ties s m link reply Proxy h offered terms same may few is stale t =
-    let held_it : IsHeld s m.past Proxy (Some h) = subst (λ x. IsHeld s m.past Proxy x) is.held t.proxy in
-    challenge_ties s (record m { unnamed_terms = Some terms }) link reply Proxy (NameRenewal Proxy h.gift) m.proxy m.server same is.target (read_unnamed s m link (Some terms) same t)
-    (stale_next s m link reply Proxy h offered terms same may few is.target held_it is.decides stale t)
-    (decided_held s m.past link reply Proxy m.proxy h offered (challenges_it s reply Proxy Proxy is.target) is.held is.decides t.proxy) (held_elsewhere s m.past link reply Proxy Server m.server is.target refl t.server)
-    (to_renew s m link reply Proxy h same is.target may held_it t)
-stale_ties s m link reply Server h offered terms same may few is stale t =
-    let held_it : IsHeld s m.past Server (Some h) = subst (λ x. IsHeld s m.past Server x) is.held t.server in
-    challenge_ties s (record m { unnamed_terms = Some terms }) link reply Server (NameRenewal Server h.gift) m.proxy m.server same is.target (read_unnamed s m link (Some terms) same t)
-    (stale_next s m link reply Server h offered terms same may few is.target held_it is.decides stale t)
-    (held_elsewhere s m.past link reply Server Proxy m.proxy is.target refl t.proxy) (decided_held s m.past link reply Server m.server h offered (challenges_it s reply Server Server is.target) is.held is.decides t.server)
-    (to_renew s m link reply Server h same is.target may held_it t)
-stale_ties s m link reply Socks h offered terms same may few is stale t = absurd (no_socks s reply is.target)
+stale_ties s m link reply x h offered terms same may few is stale t =
+    let held_x = held_at s m reply x h (Offering offered) is t in
+    let before : Kept = record m { unnamed_terms = Some terms } in
+    decided_ties s before link reply x h (Offering offered) (NameRenewal x h.gift) same (record { target = is.target; held = same_holding x ∙ is.held; decides = is.decides })
+    (record {
+      terms = terms;
+      are_unnamed = refl;
+      moves = moves_decided s m link reply x h (Offering offered) is.target held_x is.decides few t ∙ renews s (held_kept h) offered terms stale;
+    })
+    (to_renew s m link reply x h same is.target may held_x t) (read_unnamed s m link (Some terms) same t)
+  where
+    same_holding : (y : Target) → holding (record m { unnamed_terms = Some terms }) y ≡ holding m y
+    same_holding Proxy = refl
+    same_holding Server = refl
+    same_holding Socks = refl

@@ -15,7 +15,7 @@ use Rattle.request_machine.specs.declared.holding.Holding.{Holding}
 use Rattle.request_machine.specs.declared.stage.Stage.TheVariants.{Go, Draw}
 use Rattle.request_machine.specs.Kept.{Kept, Ties, IsStage, IsOpen, IsHeld, held_kept, is_after_end, can_stop}
 use Rattle.request_machine.specs.Told.{IsReady}
-use Rattle.request_machine.specs.Heads.{nonce_next, kept_drew}
+use Rattle.request_machine.specs.Heads.{nonce_next, kept_drew, bound_told}
 use Rattle.request_machine.proofs.Going.{draw_of}
 use Rattle.request_machine.proofs.Sending.{wants}
 use Rattle.request_machine.proofs.Quiet.{same_held}
@@ -53,16 +53,16 @@ to_draw s m x n same wanted t = record {
 }
 
 -- a count is drawn for the proxy next
-pub draws_proxy_ties : (s : Setting) (m : Kept) (n : ℕ) → m.stage ≡ Go → m.is_dialed ≡ true → IfSome m.proxy IsReady → IfSome m.server IsReady → nonce_next m.drawn_proxy m.proxy ≡ Some n → Ties s m
+pub draws_proxy_ties : (s : Setting) (m : Kept) (n : ℕ) → m.stage ≡ Go → m.is_dialed ≡ true → IfSome m.proxy IsReady → IfSome m.server IsReady → bound_told m ≡ None → nonce_next m.drawn_proxy m.proxy ≡ Some n → Ties s m
     → Ties s (record m { stage = Draw Proxy n })
-draws_proxy_ties s m n same dialed proxy server next t =
-    to_draw s m Proxy n same (wants s m (Draws Proxy n) same t proxy server (rw (dialed, draw_next m.drawn_proxy m.proxy Proxy (Some n) next) refl)) t
+draws_proxy_ties s m n same dialed proxy server free next t =
+    to_draw s m Proxy n same (wants s m (Draws Proxy n) same t proxy server free (rw (dialed, draw_next m.drawn_proxy m.proxy Proxy (Some n) next) refl)) t
 
 -- a count is drawn for the server next
-pub draws_server_ties : (s : Setting) (m : Kept) (n : ℕ) → m.stage ≡ Go → m.is_dialed ≡ true → IfSome m.proxy IsReady → IfSome m.server IsReady
+pub draws_server_ties : (s : Setting) (m : Kept) (n : ℕ) → m.stage ≡ Go → m.is_dialed ≡ true → IfSome m.proxy IsReady → IfSome m.server IsReady → bound_told m ≡ None
     → nonce_next m.drawn_proxy m.proxy ≡ None → nonce_next m.drawn_server m.server ≡ Some n → Ties s m → Ties s (record m { stage = Draw Server n })
-draws_server_ties s m n same dialed proxy server none next t =
-    to_draw s m Server n same (wants s m (Draws Server n) same t proxy server
+draws_server_ties s m n same dialed proxy server free none next t =
+    to_draw s m Server n same (wants s m (Draws Server n) same t proxy server free
     (rw (dialed, draw_next m.drawn_proxy m.proxy Proxy None none, draw_next m.drawn_server m.server Server (Some n) next) refl)) t
 
 -- an identity that was ready with another epoch is dropped

@@ -1,4 +1,4 @@
--- The way to the next head, where Basic and Digest identities are held alone.
+-- The way to the next head, where all is told of what is held and no link is bound.
 use Rattle.std.proofs.Common.{◌≡◌, ℕ, ◌+◌, Bool, true, false, not, ◌&&◌, List, Option, Some, None, is_none, unwrap_or, option_map, option_and_then, IsSome, IfSome, refl, ap, ◌∙◌, if◌then◌else◌}
 use Rattle.std.proofs.lemmas.Bool.{false≢true}
 use Rattle.spaces.specs.declared.site.Target.{Target}
@@ -11,14 +11,17 @@ use Rattle.auth_events.specs.declared.names.TermsName.{TermsName}
 use Rattle.auth_runs.specs.declared.event.Event.{Event}
 use Rattle.trace_rule.specs.Settings.{Setting, scheme_is, for_route, or_else}
 use Rattle.trace_rule.specs.Holding.{Held, held, bound, links, has_link, context_of}
+use Rattle.trace_rule.specs.Holding.{Context as HeldContext}
 use Rattle.trace_rule.specs.Heads.{drawn, head_text}
 use Rattle.trace_rule.specs.Moves.{Want, go, first_want, start_for, loss_for, dial_for, draw_for, head_link, has_count, identity_held, spn}
 use Rattle.trace_rule.specs.Moves.Want.{Steps, Dials, Draws, Writes}
 use Rattle.trace_rule.specs.Moves.Asking.{Start}
+use Rattle.request_machine.specs.declared.holding.Context.{Context}
 use Rattle.request_machine.specs.declared.holding.Holding.{Holding}
 use Rattle.request_machine.specs.declared.holding.NamedTerms.{NamedTerms}
 use Rattle.request_machine.specs.Kept.{Kept, Ties, IsHeld, held_kept, context_kept, terms_kept}
-use Rattle.request_machine.specs.Told.{scheme_told, IsReady, nonce_told, counted_nonce}
+use Rattle.request_machine.specs.Told.{scheme_told, IsReady, is_live, link_told, nonce_told, counted_nonce}
+use Rattle.request_machine.specs.Heads.{bound_told}
 
 -- the scheme of a gift's space is the one that was told
 pub told_scheme : (s : Setting) (n : ℕ) (scheme : Scheme) (space : Option ProtectionSpace) → IfSome space (λ named. s.space_of n ≡ Some named) → IsSome space
@@ -32,12 +35,29 @@ no_start s past t None is ready = ap (option_and_then (start_for s t)) is.is_hel
 no_start s past t (Some h) is ready =
     ap (option_and_then (start_for s t)) is.is_held
     ∙ ap (λ b. if b && is_none (option_map context_kept h.context) then Some (Steps t (Start (spn s t) (identity_held s (held_kept h)))) else None)
-    (told_scheme s h.gift.space Negotiate h.space is.is_known.space ready.space ∙ ready.plain)
+    (told_scheme s h.gift.space Negotiate h.space is.is_known.space ready.space)
+    ∙ at (Some (Steps t (Start (spn s t) (identity_held s (held_kept h))))) (scheme_told h.space Negotiate) h.context ready.context
+  where
+    at : (w : Option Want) (b : Bool) (c : Option Context) → (b ≡ true → is_live c ≡ true) → (if b && is_none (option_map context_kept c) then w else None) ≡ None
+    at w false c live = refl
+    at w true None live = absurd (false≢true (live refl))
+    at w true (Some c) live = refl
 
--- no link is bound
-pub no_context : (s : Setting) (past : List Event) (t : Target) (h : Option Holding) → IsHeld s past t h → IfSome h IsReady → context_of (held s past t) ≡ None
-no_context s past t None is ready = ap context_of is.is_held
-no_context s past t (Some h) is ready = ap context_of is.is_held ∙ ap (option_map context_kept) ready.free
+-- the link that is bound is the one that was told
+link_kept : (h : Option Holding) → option_and_then (λ (x : HeldContext). x.link) (context_of (option_map held_kept h)) ≡ link_told h
+link_kept None = refl
+link_kept (Some h) = at h.context
+  where
+    at : (c : Option Context) → option_and_then (λ (x : HeldContext). x.link) (option_map context_kept c) ≡ option_and_then (λ (x : Context). x.link) c
+    at None = refl
+    at (Some c) = refl
+
+pub bound_is_told : (s : Setting) (m : Kept) → Ties s m → bound s m.past ≡ bound_told m
+bound_is_told s m t =
+    ap (λ c. or_else (option_and_then (λ (x : HeldContext). x.link) (context_of c)) (option_and_then (λ (x : HeldContext). x.link) (context_of (held s m.past Server)))) t.proxy.is_held
+    ∙ ap (λ o. or_else o (option_and_then (λ (x : HeldContext). x.link) (context_of (held s m.past Server)))) (link_kept m.proxy)
+    ∙ ap (λ c. or_else (link_told m.proxy) (option_and_then (λ (x : HeldContext). x.link) (context_of c))) t.server.is_held
+    ∙ ap (or_else (link_told m.proxy)) (link_kept m.server)
 
 abbrev draw_by : Target → Bool → Bool → Option TermsName → Option Want
 draw_by t digest free name = if digest && free then option_and_then (λ (n : TermsName). if has_count n.terms.qop then Some (Draws t n.nonce) else None) name else None
@@ -80,11 +100,9 @@ go_told m text =
     first_want (if m.is_dialed then None else Some (Dials (m.links + 1)))
     (first_want (or_else (draw_of m.drawn_proxy m.proxy Proxy) (draw_of m.drawn_server m.server Server)) (Writes m.links text))
 
-pub go_is_told : (s : Setting) (m : Kept) → Ties s m → IfSome m.proxy IsReady → IfSome m.server IsReady → go s m.past ≡ go_told m (head_text s m.past)
-go_is_told s m t proxy server =
-    let unbound : bound s m.past ≡ None =
-    ap (λ c. or_else (option_and_then (λ (x : Rattle.trace_rule.specs.Holding.Context). x.link) c) (option_and_then (λ x. x.link) (context_of (held s m.past Server)))) (no_context s m.past Proxy m.proxy t.proxy proxy)
-    ∙ ap (λ c. option_and_then (λ (x : Rattle.trace_rule.specs.Holding.Context). x.link) c) (no_context s m.past Server m.server t.server server) in
+pub go_is_told : (s : Setting) (m : Kept) → Ties s m → IfSome m.proxy IsReady → IfSome m.server IsReady → bound_told m ≡ None → go s m.past ≡ go_told m (head_text s m.past)
+go_is_told s m t proxy server free =
+    let unbound : bound s m.past ≡ None = bound_is_told s m t ∙ free in
     let starts : for_route (λ x. option_and_then (start_for s x) (held s m.past x)) ≡ None =
     ap (λ o. or_else o (option_and_then (start_for s Server) (held s m.past Server))) (no_start s m.past Proxy m.proxy t.proxy proxy)
     ∙ no_start s m.past Server m.server t.server server in

@@ -4,6 +4,7 @@ pub mod Beside
 pub mod Replies
 pub mod Targets
 pub mod Starting
+pub mod Contexts
 pub mod Going
 pub mod Sending
 pub mod Ending

@@ -239,7 +239,7 @@ pub space_less : (m : Kept) (t : Target) (space : ProtectionSpace) → m.stage �
 space_less m t space same lack = learned_less m t Space (with_space space) (λ h none. omega (arith, ap untold none)) same lack
 
 pub identity_less : (m : Kept) (t : Target) (identity : Login) → m.stage ≡ Learn t Identity → IsLacking Identity (holding m t) → work_left (record (put_held t (option_map (with_identity identity) (holding m t)) m) { stage = Go }) < work_left m
-identity_less m t identity same lack = learned_less m t Identity (with_identity identity) (λ h none. omega (arith, ap untold none)) same lack
+identity_less m t identity same lack = learned_less m t Identity (with_identity identity) (λ h none. omega (arith, ap untold none.0)) same lack
 
 pub terms_less : (m : Kept) (t : Target) (named : NamedTerms) → m.stage ≡ Learn t NamesOf → IsLacking NamesOf (holding m t) → work_left (record (put_held t (option_map (with_named named) (holding m t)) m) { stage = Go }) < work_left m
 terms_less m t named same lack = learned_less m t NamesOf (with_named named) (λ h none. omega (arith, ap untold none.1)) same lack

@@ -35,7 +35,7 @@ use Rattle.request_machine.specs.declared.holding.Context.{Context}
 use Rattle.request_machine.specs.declared.holding.NamedTerms.{NamedTerms}
 use Rattle.request_machine.specs.declared.holding.Holding.{Holding}
 use Rattle.auth_runs.specs.declared.event.Outcome.{Outcome}
-use Rattle.request_machine.specs.Told.{IsReady, IsLack, is_first}
+use Rattle.request_machine.specs.Told.{IsReady, IsLack, token_kept, is_first}
 use Rattle.request_machine.specs.declared.stage.Closing.{Closing}
 use Rattle.request_machine.specs.declared.stage.Prompt.{Prompt}
 use Rattle.request_machine.specs.declared.stage.Stage.{Stage}
@@ -112,7 +112,7 @@ pub record IsSettingOf (s : Setting) (roster : Roster) (number : ℕ) (seed : Li
 -- WHAT IS HELD
 
 abbrev pub context_kept : Context → HeldContext
-context_kept context = record { token = context.token; is_sent = context.is_sent; link = context.link }
+context_kept context = record { token = token_kept context.token; is_sent = context.is_sent; link = context.link }
 
 -- the number is one of a space of the target
 abbrev pub IsOfTarget : Setting → ℕ → Target → Type 0

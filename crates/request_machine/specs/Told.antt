@@ -1,5 +1,5 @@
 -- What a machine knows of what it holds, by what it was told.
-use Rattle.std.specs.Prelude.{ℕ, ◌≡◌, ◌||◌, Bool, true, false, Option, Some, None, IsSome, unwrap_or, option_map, option_and_then, if◌then◌else◌}
+use Rattle.std.specs.Prelude.{ℕ, ◌≡◌, ◌==◌, ◌&&◌, ◌||◌, Bool, true, false, List, Option, Some, None, IsSome, is_some, unwrap_or, option_map, option_and_then, if◌then◌else◌}
 use Rattle.spaces.specs.declared.site.Target.{Target}
 use Rattle.spaces.specs.declared.site.Target.TheVariants.{Server, Proxy}
 use Rattle.spaces.specs.declared.space.Scheme.{Scheme}
@@ -17,8 +17,13 @@ use Rattle.auth_runs.specs.declared.event.Outcome.{Outcome}
 use Rattle.request_machine.specs.declared.stage.Closing.{Closing}
 use Rattle.request_machine.specs.declared.stage.Piece.{Piece}
 use Rattle.request_machine.specs.declared.stage.Piece.TheVariants.{Space, Identity, Terms}
+use Rattle.request_machine.specs.declared.holding.Context.{Context}
 use Rattle.request_machine.specs.declared.holding.NamedTerms.{NamedTerms}
+use Rattle.request_machine.specs.declared.holding.Token.{Token}
+use Rattle.request_machine.specs.declared.holding.Token.TheVariants.{Live, Spent}
 use Rattle.request_machine.specs.declared.holding.Holding.{Holding}
+use Rattle.request_machine.specs.declared.known.Lack.{Lack}
+use Rattle.request_machine.specs.declared.known.Lack.TheVariants.{Piece as APiece, Context as Begun, Ended}
 
 abbrev pub scheme_told : Option ProtectionSpace → Scheme → Bool
 scheme_told space scheme = unwrap_or (option_map (λ named. same_scheme named.scheme scheme) space) false
@@ -30,23 +35,81 @@ counted_nonce named = if has_count named.terms.qop then Some named.nonce else No
 abbrev pub nonce_told : Holding → Option ℕ
 nonce_told h = if scheme_told h.space Digest then option_and_then counted_nonce h.named else None
 
--- it is no Negotiate identity, and all is told of it
+-- CONTEXTS
+
+-- the token, whether its context goes on or not
+abbrev pub token_kept : Token → List ℕ
+token_kept (Live token) = token
+token_kept (Spent token) = token
+
+-- the context goes on behind its last token
+abbrev pub goes_on_behind : Token → Bool
+goes_on_behind (Live token) = true
+goes_on_behind (Spent token) = false
+
+abbrev pub is_live : Option Context → Bool
+is_live context = unwrap_or (option_map (λ c. goes_on_behind c.token) context) false
+
+-- the last token, where no head has carried it
+abbrev pub unsent_told : Context → Option (List ℕ)
+unsent_told context = if context.is_sent then None else Some (token_kept context.token)
+
+-- the head carries it, and binds its link
+abbrev pub carried_on_told : ℕ → Context → Context
+carried_on_told link context = record context { is_sent = true; link = Some link }
+
+abbrev pub headed_told : ℕ → Holding → Holding
+headed_told link h = record h { context = option_map (carried_on_told link) h.context }
+
+abbrev pub context_held : Option Holding → Option Context
+context_held h = option_and_then (λ o. o.context) h
+
+-- the link that its context has bound
+abbrev pub link_told : Option Holding → Option ℕ
+link_told h = option_and_then (λ c. c.link) (context_held h)
+
+-- it has a token that no head has carried
+abbrev pub has_unsent : Option Holding → Bool
+has_unsent h = is_some (option_and_then unsent_told (context_held h))
+
+-- WHAT THE NEXT HEAD NEEDS OF IT
+
+-- of a Negotiate identity a context that goes on; of any other the identity, and of a Digest one its terms
 pub record IsReady (h : Holding) : Type 0 where
   pub space : IsSome h.space
-  pub plain : scheme_told h.space Negotiate ≡ false
-  pub free : h.context ≡ None
-  pub identity : IsSome h.identity
+  pub context : scheme_told h.space Negotiate ≡ true → is_live h.context ≡ true
+  pub identity : scheme_told h.space Negotiate ≡ false → IsSome h.identity
   pub named : scheme_told h.space Digest ≡ true → IsSome h.named
+
+-- its context can begin: the identity is told, unless it is the default one
+pub record IsStartable (h : Holding) : Type 0 where
+  pub negotiate : scheme_told h.space Negotiate ≡ true
+  pub free : h.context ≡ None
+  pub identity : (h.gift.ordinal == 0) ≡ false → IsSome h.identity
+
+-- the default identity, of which the book has nothing
+abbrev pub is_default : Holding → Bool
+is_default h = scheme_told h.space Negotiate && h.gift.ordinal == 0
 
 -- the piece is lacking of it
 abbrev pub IsLack : Piece → Holding → Type 0
 IsLack Space h = h.space ≡ None
-IsLack Identity h = h.identity ≡ None
+IsLack Identity h = (h.identity ≡ None) × (is_default h ≡ false)
 IsLack Terms h = (scheme_told h.space Digest ≡ true) × (h.named ≡ None)
 
 abbrev pub IsLacking : Piece → Option Holding → Type 0
 IsLacking piece None = ⊥
 IsLacking piece (Some h) = IsLack piece h
+
+-- that is lacking of it, before the next head
+abbrev pub LacksOne : Lack → Holding → Type 0
+LacksOne (APiece piece) h = IsLack piece h
+LacksOne Begun h = IsStartable h
+LacksOne Ended h = Unit {0}
+
+abbrev pub Lacks : Lack → Option Holding → Type 0
+Lacks lack None = ⊥
+Lacks lack (Some h) = LacksOne lack h
 
 -- the calls that a request begins with
 abbrev pub is_first : Call → Bool

@@ -7,6 +7,7 @@ use crate::machine::Machine;
 use crate::stage::{Closing, Stage};
 use auth_events::Gift;
 use auth_runs::{Event, Outcome, Reply, Why};
+use auth_text::Bytes;
 use spaces::{Target, Terms};
 
 impl Machine {
@@ -59,7 +60,7 @@ impl Machine {
         ensures left { turns_left self.new < 3 }
         ensures free { is_waiting self.new.stage ≡ false }
         ensures ties { (s : Setting) → decision_at self.old s.request reply target
-            ≡ Some (record { gift = gift; terms = None })
+            ≡ Some (Decision.Rejects gift)
             → challenged s reply ≡ Some target → Ties s self.old → Ties s self.new }
     {
         let code = reply.code;
@@ -82,7 +83,7 @@ impl Machine {
         ensures left { turns_left self.new < 3 }
         ensures free { is_waiting self.new.stage ≡ false }
         ensures ties { (s : Setting) → decision_at self.old s.request reply target
-            ≡ Some (record { gift = gift; terms = Some terms })
+            ≡ Some (Decision.Renews gift terms)
             → challenged s reply ≡ Some target → Ties s self.old → Ties s self.new }
     {
         let code = reply.code;
@@ -91,6 +92,30 @@ impl Machine {
         self.code = code;
         self.rounds += 1;
         self.stage = Stage::NameRenewal(target, gift);
+    }
+
+    /// The reply challenges the target, and brings the token that the context waits for. So far no
+    /// context goes on.
+    fn continues(&mut self, link: u32, reply: Reply, target: Target, peer: Bytes)
+        requires room { length self.old.past < 256 }
+        requires stage { self.old.stage ≡ Stage.Read link }
+        requires reply { IsTrue (can_be reply) }
+        requires few { self.old.rounds < 16 }
+        requires ready { IfSome (holding self.old target) IsReady }
+        ensures past { self.new.past ≡ Event.Replied link reply ∷ self.old.past }
+        ensures kept { line self.new ≡ line self.old }
+        ensures away { IsTrue (is_away (way self.new.stage)) }
+        ensures left { turns_left self.new < 3 }
+        ensures free { is_waiting self.new.stage ≡ false }
+        ensures ties { (s : Setting) → decision_at self.old s.request reply target
+            ≡ Some (Decision.Continues peer)
+            → challenged s reply ≡ Some target → Ties s self.old → Ties s self.new }
+    {
+        let code = reply.code;
+        self.push(Event::Replied { link, reply });
+        self.code = code;
+        self.rounds += 1;
+        self.stage = Stage::Spent;
     }
 
     fn hold_last(&mut self, target: Target, decides: bool)
@@ -161,10 +186,9 @@ impl Machine {
         }
         match decision {
             None => self.undecided(link, reply, target),
-            Some(Decision { gift, terms }) => match terms {
-                None => self.rejects(link, reply, target, gift),
-                Some(terms) => self.stale(link, reply, target, gift, terms),
-            },
+            Some(Decision::Rejects(gift)) => self.rejects(link, reply, target, gift),
+            Some(Decision::Renews(gift, terms)) => self.stale(link, reply, target, gift, terms),
+            Some(Decision::Continues(peer)) => self.continues(link, reply, target, peer),
         }
     }
 }

@@ -7,7 +7,7 @@ ghost use Rattle.request_machine.specs.Told.{IsReady};
 
 use crate::close::closing_by;
 use crate::holding::Holding;
-use crate::known::{kept_drew, nonce_next, readiness};
+use crate::known::{Lack, kept_drew, link_told, nonce_next, unbound_readiness};
 use crate::machine::Machine;
 use crate::stage::{Piece, Stage};
 use auth_events::Drawn;
@@ -19,7 +19,7 @@ use std::alloc::Global;
 
 impl Machine {
     ghost use Rattle.request_machine.specs.Work.{is_waiting, work_left};
-    ghost use Rattle.std.specs.Prelude.{◌≤◌, ◌≡◌, ◌<◌, ◌∷◌, IfSome, Some, None, length, false, true, ◌+◌, List, Option, IsTrue, is_some};
+    ghost use Rattle.std.specs.Prelude.{◌≤◌, ◌≡◌, ◌<◌, ◌∷◌, IfSome, IfErr, OnOk, Some, None, length, false, true, ◌+◌, List, Option, IsTrue, is_some};
     ghost use Rattle.trace_rule.specs.Settings.{Setting};
     ghost use Rattle.trace_rule.specs.Telling.{dials};
     ghost use Rattle.link_trait.specs.Told.{grown};
@@ -31,7 +31,8 @@ impl Machine {
     ghost use Rattle.request_machine.specs.Failed.{link_faults, TellsLinkFaults};
     ghost use Rattle.request_machine.specs.Kept.{Ties};
     ghost use Rattle.request_machine.specs.Changed.{holding};
-    ghost use Rattle.request_machine.specs.Told.{IsLacking};
+    ghost use Rattle.request_machine.specs.Told.{IsLacking, Lacks};
+    ghost use Rattle.request_machine.specs.Heads.{bound_told};
     ghost use Rattle.request_machine.specs.Turns.{is_asking, turns_left};
 
     /// The next link was dialed.
@@ -43,6 +44,7 @@ impl Machine {
         requires undialed { self.old.is_dialed ≡ false }
         requires proxy { IfSome self.old.proxy IsReady }
         requires server { IfSome self.old.server IsReady }
+        requires unbound { bound_told self.old ≡ None }
         ensures past { self.new.past ≡ Event.Dialed (self.old.links + 1) ∷ self.old.past }
         ensures stage { self.new.stage ≡ Stage.Go }
         ensures line { line self.new
@@ -64,6 +66,7 @@ impl Machine {
         requires undialed { self.old.is_dialed ≡ false }
         requires proxy { IfSome self.old.proxy IsReady }
         requires server { IfSome self.old.server IsReady }
+        requires unbound { bound_told self.old ≡ None }
         ensures past { self.new.past
             ≡ Event.DialFailed (self.old.links + 1) count ∷ self.old.past }
         ensures asks { is_asking self.new ≡ true }
@@ -86,6 +89,7 @@ impl Machine {
         requires undialed { self.old.is_dialed ≡ false }
         requires proxy { IfSome self.old.proxy IsReady }
         requires server { IfSome self.old.server IsReady }
+        requires unbound { bound_told self.old ≡ None }
         requires linked { IsLinked self.old }
         requires links { IsOnlyLink (line self.old) (D.opened dialer.old) }
         requires told { AreDialsOf (line self.old) (D.dials dialer.old) }
@@ -129,6 +133,7 @@ impl Machine {
         requires dialed { self.old.is_dialed ≡ true }
         requires proxy { IfSome self.old.proxy IsReady }
         requires server { IfSome self.old.server IsReady }
+        requires unbound { bound_told self.old ≡ None }
         requires next { nonce_next self.old.drawn_proxy self.old.proxy ≡ Some nonce }
         ensures past { self.new.past ≡ self.old.past }
         ensures asks { is_asking self.new ≡ true }
@@ -148,6 +153,7 @@ impl Machine {
         requires dialed { self.old.is_dialed ≡ true }
         requires proxy { IfSome self.old.proxy IsReady }
         requires server { IfSome self.old.server IsReady }
+        requires unbound { bound_told self.old ≡ None }
         requires none { nonce_next self.old.drawn_proxy self.old.proxy ≡ None }
         requires next { nonce_next self.old.drawn_server self.old.server ≡ Some nonce }
         ensures past { self.new.past ≡ self.old.past }
@@ -223,11 +229,11 @@ impl Machine {
         self.stage = Stage::Learn(target, piece);
     }
 
-    /// The request can't go on with what is held: the book is to tell more of it, or, so far, it is a
-    /// Negotiate identity.
-    pub(crate) fn lack(&mut self, target: Target, piece: Option<Piece>)
+    /// The request can't go on yet with what is held: the book is to tell more of it. So far no context
+    /// begins.
+    pub(crate) fn lack(&mut self, target: Target, lack: Lack)
         requires stage { self.old.stage ≡ Stage.Go }
-        requires lack { IfSome piece (λ p. IsLacking p (holding self.old target)) }
+        requires lack { Lacks lack (holding self.old target) }
         ensures past { self.new.past ≡ self.old.past }
         ensures asks { is_asking self.new ≡ true }
         ensures kept { line self.new ≡ line self.old }
@@ -236,10 +242,38 @@ impl Machine {
         ensures less { work_left self.new ≤ work_left self.old }
         ensures ties { (s : Setting) → Ties s self.old → Ties s self.new }
     {
-        match piece {
-            Some(piece) => self.learn(target, piece),
-            None => self.spend(),
+        match lack {
+            Lack::Piece(piece) => self.learn(target, piece),
+            Lack::Context => self.spend(),
+            Lack::Ended => self.spend(),
         }
+    }
+
+    /// The link that a context has bound.
+    pub(crate) fn bound(&self) -> Option<u32>
+        ensures { result ≡ bound_told self.now }
+    {
+        match link_told(&self.proxy) {
+            Some(link) => Some(link),
+            None => link_told(&self.server),
+        }
+    }
+
+    /// Whether the next head can be written over a new link; else what is lacking, and of which target.
+    #[tactic(auto, using(crate::proofs::Contexts::unbound_both))]
+    fn is_ready(&self) -> Result<(), (Target, Lack)>
+        ensures proxy { OnOk result (IfSome self.now.proxy IsReady) }
+        ensures server { OnOk result (IfSome self.now.server IsReady) }
+        ensures unbound { OnOk result (bound_told self.now ≡ None) }
+        ensures lack { IfErr result (λ found. Lacks found.1 (holding self.now found.0)) }
+    {
+        if let Err(lack) = unbound_readiness(&self.proxy) {
+            return Err((Target::Proxy, lack));
+        }
+        if let Err(lack) = unbound_readiness(&self.server) {
+            return Err((Target::Server, lack));
+        }
+        Ok(())
     }
 
     /// Goes on to the next head, up to what the book or the words must tell.
@@ -271,12 +305,8 @@ impl Machine {
         ensures nearer { turns_left self.new < turns_left self.old }
         ensures insides { insides self.new.past ≡ insides self.old.past }
     {
-        if let Err(piece) = readiness(&self.proxy) {
-            self.lack(Target::Proxy, piece);
-            return;
-        }
-        if let Err(piece) = readiness(&self.server) {
-            self.lack(Target::Server, piece);
+        if let Err((target, lack)) = self.is_ready() {
+            self.lack(target, lack);
             return;
         }
         if !self.is_dialed {

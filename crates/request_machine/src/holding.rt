@@ -4,10 +4,19 @@ use auth_events::Gift;
 use auth_text::{Bytes, Identity};
 use spaces::{Space, Terms};
 
+/// The last token of a context.
+#[derive(Debug, Drop)]
+pub enum Token {
+    /// The context goes on behind it.
+    Live(negotiate_handler::Context),
+    /// The provider has ended the context, which stands until its gift is rejected.
+    Spent(Bytes),
+}
+
 /// The last token of a context, whether a head has carried it, and the link of its heads.
 #[derive(Debug, Drop)]
 pub struct Context {
-    pub token: Bytes,
+    pub token: Token,
     pub is_sent: bool,
     pub link: Option<u32>,
 }

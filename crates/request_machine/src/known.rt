@@ -1,14 +1,16 @@
 //! What a machine knows of what it holds, by what the book has told.
 
-ghost use Rattle.std.specs.Prelude.{◌≡◌, option_and_then, None, IfSome, OnOk, IfErr, option_map};
+ghost use Rattle.std.specs.Prelude.{◌≡◌, option_and_then, None, Some, true, IfSome, OnOk, IfErr, option_map};
+ghost use Rattle.spaces.specs.declared.space.Scheme.TheVariants.{Negotiate};
 ghost use Rattle.request_machine.specs.Heads.{kept_drew, nonce_next};
-ghost use Rattle.request_machine.specs.Told.{gift_told, bare, IsReady, IsLack, IsLacking, nonce_told, with_space, with_identity, with_named};
+ghost use Rattle.request_machine.specs.Told.{scheme_told, gift_told, bare, IsReady, LacksOne, Lacks, nonce_told, with_space, with_identity, with_named};
+ghost use Rattle.request_machine.specs.Told.{link_told, headed_told, carried_on_told};
 
-use crate::holding::{Holding, NamedTerms};
+use crate::holding::{Context, Holding, NamedTerms, Token};
 use crate::stage::Piece;
 use auth_events::Gift;
 use auth_text::Identity;
-use spaces::{Qop, Scheme, Space};
+use spaces::{Qop, Scheme, Space, same_scheme};
 
 /// The gift that is noted, where the identity is a Basic or Digest one.
 pub(crate) fn gift_told(held: &Option<Holding>) -> Option<Gift>
@@ -57,11 +59,21 @@ pub(crate) fn bare(gift: Gift, terms: u32) -> Holding
     }
 }
 
-/// Whether all is told of what is held; else what is lacking, or nothing where it is a Negotiate
-/// identity.
-pub(crate) fn readiness(held: &Option<Holding>) -> Result<(), Option<Piece>>
+/// What is lacking of what is held, before the next head.
+#[derive(Clone, Copy)]
+pub(crate) enum Lack {
+    /// The book is to tell more of it.
+    Piece(Piece),
+    /// Its context is to begin.
+    Context,
+    /// Its context can't go on.
+    Ended,
+}
+
+/// Whether nothing is lacking of what is held; else what is.
+pub(crate) fn readiness(held: &Option<Holding>) -> Result<(), Lack>
     ensures ready { OnOk result (IfSome held.now IsReady) }
-    ensures lack { IfErr result (λ piece. IfSome piece (λ p. IsLacking p held.now)) }
+    ensures lack { IfErr result (λ lack. Lacks lack held.now) }
 {
     match held {
         None => Ok(()),
@@ -69,30 +81,104 @@ pub(crate) fn readiness(held: &Option<Holding>) -> Result<(), Option<Piece>>
     }
 }
 
-pub(crate) fn readiness_of(held: &Holding) -> Result<(), Option<Piece>>
+/// Whether the space is of the scheme.
+pub(crate) fn is_of(space: &Space, scheme: Scheme) -> bool
+    ensures { result ≡ scheme_told (Some space.now) scheme }
+{
+    same_scheme(space.scheme(), scheme)
+}
+
+pub(crate) fn readiness_of(held: &Holding) -> Result<(), Lack>
     ensures ready { OnOk result (IsReady held.now) }
-    ensures lack { IfErr result (λ piece. IfSome piece (λ p. IsLack p held.now)) }
+    ensures lack { IfErr result (λ lack. LacksOne lack held.now) }
 {
     let Some(space) = &held.space else {
-        return Err(Some(Piece::Space));
+        return Err(Lack::Piece(Piece::Space));
     };
-    if held.context.is_some() {
-        return Err(None);
+    if is_of(space, Scheme::Negotiate) {
+        return context_readiness(held);
     }
     if held.identity.is_none() {
-        return Err(Some(Piece::Identity));
+        return Err(Lack::Piece(Piece::Identity));
     }
-    match space.scheme() {
-        Scheme::Basic => Ok(()),
-        Scheme::Digest => {
-            if held.named.is_some() {
-                Ok(())
+    if is_of(space, Scheme::Digest) && held.named.is_none() {
+        return Err(Lack::Piece(Piece::Terms));
+    }
+    Ok(())
+}
+
+/// The same of a Negotiate identity. The default one is told by nobody.
+#[tactic(auto, using(crate::proofs::Contexts::ready_live))]
+fn context_readiness(held: &Holding) -> Result<(), Lack>
+    requires { scheme_told held.now.space Negotiate ≡ true }
+    ensures ready { OnOk result (IsReady held.now) }
+    ensures lack { IfErr result (λ lack. LacksOne lack held.now) }
+{
+    match &held.context {
+        Some(context) => match &context.token {
+            Token::Live(_) => Ok(()),
+            Token::Spent(_) => Err(Lack::Ended),
+        },
+        None => {
+            if held.identity.is_none() && held.gift.ordinal != 0 {
+                Err(Lack::Piece(Piece::Identity))
             } else {
-                Err(Some(Piece::Terms))
+                Err(Lack::Context)
             }
         }
-        Scheme::Negotiate => Err(None),
-        Scheme::Password => Ok(()),
+    }
+}
+
+/// The link that the context of what is held has bound.
+pub(crate) fn link_told(held: &Option<Holding>) -> Option<u32>
+    ensures { result ≡ link_told held.now }
+{
+    match held {
+        None => None,
+        Some(held) => match &held.context {
+            None => None,
+            Some(context) => context.link,
+        },
+    }
+}
+
+/// The same as `readiness`, of what no link is bound for. A context that has bound one can't go on yet.
+pub(crate) fn unbound_readiness(held: &Option<Holding>) -> Result<(), Lack>
+    ensures ready { OnOk result (IfSome held.now IsReady) }
+    ensures unbound { OnOk result (link_told held.now ≡ None) }
+    ensures lack { IfErr result (λ lack. Lacks lack held.now) }
+{
+    readiness(held)?;
+    match link_told(held) {
+        None => Ok(()),
+        Some(_) => Err(Lack::Ended),
+    }
+}
+
+/// What is held behind a head over that link.
+pub(crate) fn headed_told(link: u32, held: Option<Holding>) -> Option<Holding>
+    ensures { result ≡ option_map (headed_told link) held }
+{
+    match held {
+        None => None,
+        Some(held) => Some(Holding {
+            context: carried_on(link, held.context),
+            ..held
+        }),
+    }
+}
+
+/// The same of its context.
+fn carried_on(link: u32, context: Option<Context>) -> Option<Context>
+    ensures { result ≡ option_map (carried_on_told link) context }
+{
+    match context {
+        None => None,
+        Some(context) => Some(Context {
+            is_sent: true,
+            link: Some(link),
+            ..context
+        }),
     }
 }
 

@@ -40,7 +40,7 @@ mod turn;
 
 pub use gave::Gave;
 pub use gear::Gear;
-pub use holding::{Context, Holding, NamedTerms};
+pub use holding::{Context, Holding, NamedTerms, Token};
 pub use machine::Machine;
 pub use need::Need;
 pub use stage::{Closing, Piece, Prompt, Stage};

@@ -5,8 +5,8 @@ ghost use Rattle.request_machine.specs.Heads.{nonce_next};
 ghost use Rattle.request_machine.specs.Told.{IsReady};
 
 use crate::close::closing_by;
-use crate::fields::{Maker, field, head};
-use crate::known::gift_told;
+use crate::fields::{Maker, field, has_unsent, head};
+use crate::known::{gift_told, headed_told};
 use crate::machine::Machine;
 use crate::stage::Stage;
 use auth_runs::{Event, Outcome};
@@ -18,7 +18,7 @@ use std::alloc::Global;
 
 impl Machine {
     ghost use Rattle.request_machine.specs.Work.{is_waiting, work_left};
-    ghost use Rattle.std.specs.Prelude.{◌≡◌, ◌≢◌, ◌<◌, ◌≤◌, ◌∷◌, IfOk, IfSome, None, length, true, false, IsTrue, List, Option};
+    ghost use Rattle.std.specs.Prelude.{◌≡◌, ◌≢◌, ◌<◌, ◌≤◌, ◌∷◌, IfOk, IfSome, None, length, true, false, IsTrue, List, Option, option_map, option_and_then};
     ghost use Rattle.trace_rule.specs.Settings.{Setting};
     ghost use Rattle.trace_rule.specs.Telling.{dials};
     ghost use Rattle.link_trait.specs.Told.{grown};
@@ -30,7 +30,8 @@ impl Machine {
     ghost use Rattle.request_machine.specs.Carried.{TellsTraffic};
     ghost use Rattle.request_machine.specs.Prompted.{IsUnprompted};
     ghost use Rattle.request_machine.specs.Failed.{link_faults, TellsLinkFaults};
-    ghost use Rattle.request_machine.specs.Heads.{head_told};
+    ghost use Rattle.request_machine.specs.Heads.{bound_told, keeps_told, head_told};
+    ghost use Rattle.request_machine.specs.Told.{gift_told, headed_told};
     ghost use Rattle.request_machine.specs.Turns.{is_asking, turns_left};
     ghost use Rattle.request_machine.specs.Linked.{line, way, goes_on, is_ending, IsLinked, IsOnlyLink, AreDialsOf, IsDriven};
 
@@ -63,8 +64,42 @@ impl Machine {
             self.drawn_server,
             &self.server,
         )?;
-        let text = head(alloc, self.is_proxied, request, &proxy, &server)?;
+        let keep = self.keeps();
+        let text = head(alloc, self.is_proxied, request, &proxy, &server, keep)?;
         Ok(text)
+    }
+
+    /// Whether the link is kept behind the next head: a context has bound it, or does by that head.
+    fn keeps(&self) -> bool
+        ensures { result ≡ keeps_told self.now }
+    {
+        self.bound().is_some() || has_unsent(&self.proxy) || has_unsent(&self.server)
+    }
+
+    /// The Basic and Digest gifts that are held are those that the head carries.
+    fn note_carried(&mut self)
+        ensures { self.new
+            ≡ record self.old {
+              noted_proxy = option_and_then gift_told self.old.proxy;
+              noted_server = option_and_then gift_told self.old.server;
+            } }
+    {
+        self.noted_proxy = gift_told(&self.proxy);
+        self.noted_server = gift_told(&self.server);
+    }
+
+    /// The head carries what is held over that link.
+    fn carry_on(&mut self, link: u32)
+        ensures { self.new
+            ≡ record self.old {
+              proxy = option_map (headed_told link) self.old.proxy;
+              server = option_map (headed_told link) self.old.server;
+            } }
+    {
+        let proxy = self.take_proxy();
+        self.hold_proxy(headed_told(link, proxy));
+        let server = self.take_server();
+        self.hold_server(headed_told(link, server));
     }
 
     /// The next head is written.
@@ -76,6 +111,7 @@ impl Machine {
         requires dialed { self.old.is_dialed ≡ true }
         requires proxy { IfSome self.old.proxy IsReady }
         requires server { IfSome self.old.server IsReady }
+        requires unbound { bound_told self.old ≡ None }
         requires undrawn_proxy { nonce_next self.old.drawn_proxy self.old.proxy ≡ None }
         requires undrawn_server { nonce_next self.old.drawn_server self.old.server ≡ None }
         requires bytes { bytes ≡ head_told self.old request.now }
@@ -87,8 +123,8 @@ impl Machine {
     {
         let link = self.links;
         self.push(Event::Headed { link, bytes });
-        self.noted_proxy = gift_told(&self.proxy);
-        self.noted_server = gift_told(&self.server);
+        self.note_carried();
+        self.carry_on(link);
         self.drawn_proxy = None;
         self.drawn_server = None;
         self.heads += 1;
@@ -124,6 +160,7 @@ impl Machine {
         requires dialed { self.old.is_dialed ≡ true }
         requires proxy { IfSome self.old.proxy IsReady }
         requires server { IfSome self.old.server IsReady }
+        requires unbound { bound_told self.old ≡ None }
         requires undrawn_proxy { nonce_next self.old.drawn_proxy self.old.proxy ≡ None }
         requires undrawn_server { nonce_next self.old.drawn_server self.old.server ≡ None }
         requires linked { IsLinked self.old }

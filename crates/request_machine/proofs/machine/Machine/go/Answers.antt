@@ -9,9 +9,6 @@ use Rattle.request_machine.proofs.machine.Machine.go.Goals as goal
 pub returns-in-Err-clause-driven : goal.returns-in-Err-clause-driven
 returns-in-Err-clause-driven g c = driven_same c.args.self.now c.lack.new.self _ _ c.lack.ensures.kept c.lack.ensures.goes c.requires.linked c.requires.links c.requires.told
 
-pub returns-in-Err-readiness-clause-driven : goal.returns-in-Err-readiness-clause-driven
-returns-in-Err-readiness-clause-driven g c = driven_same c.args.self.now c.lack-in-Err-readiness.new.self _ _ c.lack-in-Err-readiness.ensures.kept c.lack-in-Err-readiness.ensures.goes c.requires.linked c.requires.links c.requires.told
-
 pub returns-in-Some-clause-driven : goal.returns-in-Some-clause-driven
 returns-in-Some-clause-driven g c = driven_same c.args.self.now c.draws_proxy.new.self _ _ c.draws_proxy.ensures.kept c.draws_proxy.ensures.goes c.requires.linked c.requires.links c.requires.told
 
@@ -26,15 +23,6 @@ returns-in-Err-clause-traffic g c = tells_same c.args.request.now c.args.self.no
 
 pub returns-in-Err-clause-faults : goal.returns-in-Err-clause-faults
 returns-in-Err-clause-faults g c = tells_link_still g.D.Dialer.sticks c.args.self.now c.lack.new.self _ _ (ap link_faults c.lack.ensures.past) refl
-
-pub returns-in-Err-readiness-clause-unprompted : goal.returns-in-Err-readiness-clause-unprompted
-returns-in-Err-readiness-clause-unprompted g c = unprompted_line c.args.self.now c.lack-in-Err-readiness.new.self c.lack-in-Err-readiness.ensures.past c.lack-in-Err-readiness.ensures.kept
-
-pub returns-in-Err-readiness-clause-traffic : goal.returns-in-Err-readiness-clause-traffic
-returns-in-Err-readiness-clause-traffic g c = tells_same c.args.request.now c.args.self.now c.lack-in-Err-readiness.new.self _ _ _ c.lack-in-Err-readiness.ensures.past c.lack-in-Err-readiness.ensures.kept c.lack-in-Err-readiness.ensures.goes refl
-
-pub returns-in-Err-readiness-clause-faults : goal.returns-in-Err-readiness-clause-faults
-returns-in-Err-readiness-clause-faults g c = tells_link_still g.D.Dialer.sticks c.args.self.now c.lack-in-Err-readiness.new.self _ _ (ap link_faults c.lack-in-Err-readiness.ensures.past) refl
 
 pub returns-in-Some-clause-unprompted : goal.returns-in-Some-clause-unprompted
 returns-in-Some-clause-unprompted g c = unprompted_line c.args.self.now c.draws_proxy.new.self c.draws_proxy.ensures.past c.draws_proxy.ensures.kept
