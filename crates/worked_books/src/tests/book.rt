@@ -2,7 +2,9 @@
 
 ghost use Rattle.std.specs.Prelude.{◌≡◌, ◌<◌, ◌*◌, length, IsTrue, IfOk};
 
+use crate::tests::histories::History;
 use crate::tests::rows::Row;
+use crate::tests::sources::is_space;
 use crate::try_call;
 use auth_book::AuthBook;
 use auth_events::Controller;
@@ -81,18 +83,6 @@ fn basic(alloc: Global, request: &Request) -> Result<Space, NoMemory> {
     let site = server(request)?;
     let realm = Bytes::from_slice(alloc, b"x")?;
     Ok(Space::new(site, Scheme::Basic, realm))
-}
-
-/// The requests by their partitions and URLs.
-pub(crate) fn roster_of(alloc: Global, asks: &[(&[u8], &[u8])]) -> Result<Roster, NoMemory> {
-    let mut requests = Requests::new(alloc);
-    for ask in asks {
-        requests.push(request(alloc, ask.0, ask.1)?)?;
-    }
-    Ok(Roster {
-        requests,
-        allowed: Origins::new(alloc),
-    })
 }
 
 /// A request of the host whose name is an `h` and that letter, in the partition of a `p` and that digit.
@@ -221,7 +211,7 @@ pub(crate) fn play_one<B: Controller>(
 }
 
 /// Plays the rows, each by the caller of its request's number.
-pub(crate) fn play<B: Controller>(rt: &impl Abort, book: &mut B, roster: &Roster, rows: &[Row])
+fn play<B: Controller>(rt: &impl Abort, book: &mut B, roster: &Roster, rows: &[Row])
     requires { B.roster book.old ≡ roster.now }
     ensures { B.roster book.new ≡ roster.now }
 {
@@ -230,21 +220,33 @@ pub(crate) fn play<B: Controller>(rt: &impl Abort, book: &mut B, roster: &Roster
     }
 }
 
-/// Names what the rows speak of, and plays their parts.
-fn play_all<B: Controller>(
+/// The first number stands for the Basic space of the first request.
+fn keeps_first_space<B: Controller>(
+    rt: &impl Abort,
+    alloc: Global,
+    book: &B,
+    roster: &Roster,
+) -> Result<(), NoMemory> {
+    let Some(request) = roster.requests.get(1) else {
+        panic!(rt; "no request");
+    };
+    is_space(rt, book, 1, &basic(alloc, request)?)
+}
+
+/// Names what the rows speak of, and plays them. It answers how many entries the book then has.
+pub(crate) fn play_all<B: Controller>(
     rt: &impl Abort,
     alloc: Global,
     book: &mut B,
     roster: &Roster,
-    parts: &[&[Row]],
-) -> Result<(), NoMemory>
+    rows: &[Row],
+) -> Result<usize, NoMemory>
     requires { B.roster book.old ≡ roster.now }
 {
     name_all(rt, alloc, book, roster)?;
-    for part in parts {
-        play(rt, book, roster, part);
-    }
-    Ok(())
+    play(rt, book, roster, rows);
+    keeps_first_space(rt, alloc, book, roster)?;
+    Ok(book.journal().entries().len())
 }
 
 /// An empty book of these requests.
@@ -257,7 +259,11 @@ pub(crate) fn opened(rt: &impl Abort, alloc: Global, roster: &Roster) -> Result<
 }
 
 /// An empty book of these requests that decides by its index.
-fn opened_with_index(rt: &impl Abort, alloc: Global, roster: &Roster) -> Result<AuthBook, NoMemory>
+pub(crate) fn opened_with_index(
+    rt: &impl Abort,
+    alloc: Global,
+    roster: &Roster,
+) -> Result<AuthBook, NoMemory>
     ensures { IfOk result (λ book. ⟦<AuthBook as Controller>⟧.roster book ≡ roster.now) }
 {
     assert!(rt; roster.requests.len() <= 2048);
@@ -265,33 +271,35 @@ fn opened_with_index(rt: &impl Abort, alloc: Global, roster: &Roster) -> Result<
     Ok(book)
 }
 
-/// A book of these requests, which has replied as the rows say; so has one that decides by its index.
+/// A book that decides by its index replies as the rows say.
+fn play_by_index(
+    rt: &impl Abort,
+    alloc: Global,
+    roster: &Roster,
+    rows: &[Row],
+) -> Result<usize, NoMemory> {
+    let mut book = opened_with_index(rt, alloc, roster)?;
+    play_all(rt, alloc, &mut book, roster, rows)
+}
+
+/// A book that scans its journal and one that decides by its index reply as the rows say, and both have so
+/// many entries behind them.
 pub(crate) fn played_on(
     rt: &impl Abort,
     alloc: Global,
     roster: &Roster,
-    parts: &[&[Row]],
-) -> Result<PlainBook, NoMemory> {
-    let mut indexed = opened_with_index(rt, alloc, roster)?;
-    play_all(rt, alloc, &mut indexed, roster, parts)?;
+    rows: &[Row],
+) -> Result<usize, NoMemory> {
+    let entries = play_by_index(rt, alloc, roster, rows)?;
     let mut book = opened(rt, alloc, roster)?;
-    play_all(rt, alloc, &mut book, roster, parts)?;
-    Ok(book)
+    let scanned = play_all(rt, alloc, &mut book, roster, rows)?;
+    assert!(rt; scanned == entries);
+    Ok(entries)
 }
 
-/// The same, of the requests that have these partitions and URLs.
-pub(crate) fn played(
-    rt: &impl Abort,
-    alloc: Global,
-    asks: &[(&[u8], &[u8])],
-    parts: &[&[Row]],
-) -> Result<PlainBook, NoMemory> {
-    let roster = roster_of(alloc, asks)?;
-    played_on(rt, alloc, &roster, parts)
-}
-
-/// The Basic space of the request of that partition and URL.
-pub(crate) fn space_of_ask(alloc: Global, ask: (&[u8], &[u8])) -> Result<Space, NoMemory> {
-    let request = request(alloc, ask.0, ask.1)?;
-    basic(alloc, &request)
+/// Both books reply as the history says.
+pub(crate) fn played(rt: &impl Abort, alloc: Global, history: History) -> Result<usize, NoMemory> {
+    let roster = history.roster(alloc)?;
+    let rows = history.rows(alloc)?;
+    played_on(rt, alloc, &roster, rows.as_slice())
 }

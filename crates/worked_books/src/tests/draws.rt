@@ -3,16 +3,26 @@
 ghost use Rattle.std.specs.Prelude.{◌≡◌, ◌<◌, ◌*◌, ◌+◌, ◌∷◌, [], length, IsTrue, IfOk, OnOk};
 ghost use Rattle.auth_events.specs.Tables.{is_home};
 
-use crate::tests::book::{name_space, name_text, play, play_one, request, server};
-use crate::tests::rows::{
-    AFTER_BEGIN, FIRST_ANSWER, OTHER_REALM, Row, SECOND_ANSWER, THIRD_ANSWER,
+use crate::tests::book::{
+    name_space, name_text, opened, opened_with_index, play_one, request, server,
 };
+use crate::tests::rows::{NO, Row};
 use auth_events::{Controller, Drawn, Names, TermsRef};
 use auth_text::{Bytes, NoMemory};
 use plain_book::PlainWords;
-use spaces::{Algorithm, Qop, Roster, Scheme, Space, Terms};
+use spaces::{Algorithm, Origins, Qop, Requests, Roster, Scheme, Space, Terms};
 use std::alloc::Global;
 use std::process::Abort;
+
+/// A request of a Digest server.
+fn roster(alloc: Global) -> Result<Roster, NoMemory> {
+    let mut requests = Requests::new(alloc);
+    requests.push(request(alloc, b"main", b"http://a.example/")?)?;
+    Ok(Roster {
+        requests,
+        allowed: Origins::new(alloc),
+    })
+}
 
 /// The Digest space of that realm.
 fn digest(alloc: Global, realm: &[u8]) -> Result<Space, NoMemory> {
@@ -80,6 +90,17 @@ pub(crate) fn name_realm<B: Controller>(
     Ok(numbers)
 }
 
+/// The prompt of that number is led in the first realm, and answered.
+fn play_answer<B: Controller>(rt: &impl Abort, book: &mut B, roster: &Roster, prompt: u32)
+    requires { B.roster book.old ≡ roster.now }
+    ensures { B.roster book.new ≡ roster.now }
+{
+    let select = Row(1, "select", [1, 1, 0], "lead", [prompt, prompt, 0]);
+    play_one(rt, book, roster, select);
+    let answer = Row(1, "answer", [prompt, prompt, 1], "given", [1, prompt, 0]);
+    play_one(rt, book, roster, answer);
+}
+
 /// A prompt gives credentials, which go out with this draw and are refused: that retires the nonce.
 fn is_refused<B: Controller>(
     rt: &impl Abort,
@@ -87,7 +108,7 @@ fn is_refused<B: Controller>(
     book: &mut B,
     roster: &Roster,
     words: &mut PlainWords,
-    rows: &[Row; 3],
+    prompt: u32,
     wanted: Drawn,
 ) -> Result<(), NoMemory>
     requires roster { B.roster book.old ≡ roster.now }
@@ -96,11 +117,10 @@ fn is_refused<B: Controller>(
     ensures roster { B.roster book.new ≡ roster.now }
     ensures words { OnOk result (words.new ≡ record { count = wanted.epoch + 1; epoch = wanted.epoch + 1 } ∷ []) }
 {
-    let [select, answer, reject] = *rows;
     name_text(rt, alloc, book, roster, b"u")?;
-    play_one(rt, book, roster, select);
-    play_one(rt, book, roster, answer);
+    play_answer(rt, book, roster, prompt);
     assert!(rt; words.draw(1) == wanted);
+    let reject = Row(1, "reject", [1, prompt, 0], "removed", NO);
     assert!(rt; play_one(rt, book, roster, reject) == 1);
     words.retire(1);
     Ok(())
@@ -120,11 +140,11 @@ fn refused_thrice<B: Controller>(
     ensures words { OnOk result (words.new ≡ record { count = 3; epoch = 3 } ∷ []) }
 {
     let drawn = Drawn { count: 1, epoch: 0 };
-    is_refused(rt, alloc, book, roster, words, FIRST_ANSWER, drawn)?;
+    is_refused(rt, alloc, book, roster, words, 1, drawn)?;
     let drawn = Drawn { count: 2, epoch: 1 };
-    is_refused(rt, alloc, book, roster, words, SECOND_ANSWER, drawn)?;
+    is_refused(rt, alloc, book, roster, words, 2, drawn)?;
     let drawn = Drawn { count: 3, epoch: 2 };
-    is_refused(rt, alloc, book, roster, words, THIRD_ANSWER, drawn)?;
+    is_refused(rt, alloc, book, roster, words, 3, drawn)?;
     Ok(())
 }
 
@@ -142,7 +162,8 @@ fn first_realm<B: Controller>(
     let mut words = PlainWords::new(alloc, 1)?;
     let numbers = name_realm(rt, alloc, book, roster, b"d", b"n")?;
     assert!(rt; numbers == TermsRef { terms: 1, nonce: 1 });
-    play(rt, book, roster, AFTER_BEGIN);
+    play_one(rt, book, roster, Row(1, "begin", NO, "begun", NO));
+    play_one(rt, book, roster, Row(1, "preempt", NO, "nothing", NO));
     refused_thrice(rt, alloc, book, roster, &mut words)?;
     Ok(words)
 }
@@ -161,13 +182,16 @@ fn other_realm<B: Controller>(
     let numbers = name_realm(rt, alloc, book, roster, b"e", b"n")?;
     assert!(rt; numbers == TermsRef { terms: 2, nonce: 1 });
     name_text(rt, alloc, book, roster, b"u")?;
-    play(rt, book, roster, OTHER_REALM);
+    let select = Row(1, "select", [2, 2, 0], "lead", [4, 1, 0]);
+    play_one(rt, book, roster, select);
+    let answer = Row(1, "answer", [4, 4, 2], "given", [2, 1, 0]);
+    play_one(rt, book, roster, answer);
     assert!(rt; words.draw(1) == Drawn { count: 4, epoch: 3 });
     Ok(())
 }
 
-/// The counts of the nonce go on over three refusals, and into another realm of its site.
-pub(crate) fn counts_go_on<B: Controller>(
+/// The counts of one nonce go on over three refusals, and into another realm of its site.
+fn counts_on<B: Controller>(
     rt: &impl Abort,
     alloc: Global,
     book: &mut B,
@@ -176,6 +200,19 @@ pub(crate) fn counts_go_on<B: Controller>(
     requires { B.roster book.old ≡ roster.now }
 {
     let mut words = first_realm(rt, alloc, book, roster)?;
-    other_realm(rt, alloc, book, roster, &mut words)?;
-    Ok(())
+    other_realm(rt, alloc, book, roster, &mut words)
+}
+
+fn counts_by_index(rt: &impl Abort, alloc: Global, roster: &Roster) -> Result<(), NoMemory> {
+    let mut book = opened_with_index(rt, alloc, roster)?;
+    counts_on(rt, alloc, &mut book, roster)
+}
+
+/// A Digest server always sends one nonce, to a book that scans its journal and to one that decides by its
+/// index.
+pub(crate) fn counts_go_on(rt: &impl Abort, alloc: Global) -> Result<(), NoMemory> {
+    let roster = roster(alloc)?;
+    counts_by_index(rt, alloc, &roster)?;
+    let mut book = opened(rt, alloc, &roster)?;
+    counts_on(rt, alloc, &mut book, &roster)
 }

@@ -6,6 +6,59 @@ use crate::tests::rows::{NO, Row};
 use auth_text::NoMemory;
 use std::alloc::Global;
 
+/// What competes.
+#[derive(Clone, Copy)]
+pub(crate) enum Rivals {
+    /// The spaces of one partition.
+    OfOneSide,
+    /// The same behind a space of another partition, on the first host too.
+    BesideAnother,
+    /// The spaces of two partitions by turns.
+    OfTwoSides,
+}
+
+impl Rivals {
+    /// The hosts of the requests: of the 32 spaces that are given, then of the first, of one more and of
+    /// the one that is evicted for it, and then of each that stays.
+    pub(crate) fn hosts(self) -> &'static [u8] {
+        match self {
+            Rivals::OfOneSide => {
+                b"abcdefghijklmnopqrstuvwxyz012345a6bacdefghijklmnopqrstuvwxyz0123456"
+            }
+            Rivals::BesideAnother => {
+                b"aabcdefghijklmnopqrstuvwxyz012345a6baacdefghijklmnopqrstuvwxyz0123456"
+            }
+            Rivals::OfTwoSides => {
+                b"abcdefghijklmnopqrstuvwxyz012345a6abcdefghijklmnopqrstuvwxyz0123456"
+            }
+        }
+    }
+
+    /// The partitions of the requests.
+    pub(crate) fn sides(self) -> &'static [u8] {
+        match self {
+            Rivals::OfOneSide => {
+                b"1111111111111111111111111111111111111111111111111111111111111111111"
+            }
+            Rivals::BesideAnother => {
+                b"211111111111111111111111111111111111211111111111111111111111111111111"
+            }
+            Rivals::OfTwoSides => {
+                b"1212121212121212121212121212121211121212121212121212121212121212121"
+            }
+        }
+    }
+
+    /// The calls and the replies.
+    pub(crate) fn rows(self, alloc: Global) -> Result<Vec<Row>, NoMemory> {
+        match self {
+            Rivals::OfOneSide => full_cache(alloc),
+            Rivals::BesideAnother => full_cache_beside(alloc),
+            Rivals::OfTwoSides => two_sides(alloc),
+        }
+    }
+}
+
 /// The request begins, and nothing is ready for it.
 fn push_begun(rows: &mut Vec<Row>, request: u32) -> Result<(), NoMemory> {
     rows.push(Row(request, "begin", NO, "begun", NO))?;
@@ -62,7 +115,7 @@ fn push_all_live(rows: &mut Vec<Row>, first: u32, spaces: u32, gone: u32) -> Res
 }
 
 /// A partition is full, and one giving more evicts the space that was not touched for longest.
-pub(crate) fn full_cache(alloc: Global) -> Result<Vec<Row>, NoMemory> {
+fn full_cache(alloc: Global) -> Result<Vec<Row>, NoMemory> {
     let mut rows = Vec::new(alloc);
     push_filling(&mut rows, 0, 2)?;
     push_begun(&mut rows, 35)?;
@@ -72,7 +125,7 @@ pub(crate) fn full_cache(alloc: Global) -> Result<Vec<Row>, NoMemory> {
 }
 
 /// The same behind a space of another partition, which stays.
-pub(crate) fn full_cache_beside(alloc: Global) -> Result<Vec<Row>, NoMemory> {
+fn full_cache_beside(alloc: Global) -> Result<Vec<Row>, NoMemory> {
     let mut rows = Vec::new(alloc);
     push_given(&mut rows, 1, 1, 0)?;
     push_filling(&mut rows, 1, 3)?;
@@ -83,7 +136,7 @@ pub(crate) fn full_cache_beside(alloc: Global) -> Result<Vec<Row>, NoMemory> {
 }
 
 /// The spaces stand in two partitions by turns, so nobody is evicted.
-pub(crate) fn two_sides(alloc: Global) -> Result<Vec<Row>, NoMemory> {
+fn two_sides(alloc: Global) -> Result<Vec<Row>, NoMemory> {
     let mut rows = Vec::new(alloc);
     push_filling(&mut rows, 0, 0)?;
     push_all_live(&mut rows, 35, 33, 0)?;

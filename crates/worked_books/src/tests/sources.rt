@@ -6,10 +6,11 @@ ghost use Rattle.auth_events.specs.Book.{is_that_gift};
 ghost use Rattle.auth_events.specs.Identities.{giving};
 
 use crate::tests::book::{
-    name_space, name_text, opened, place, play, request, request_over, site_of,
+    name_space, name_text, opened, opened_with_index, place, play_one, request, request_over,
+    site_of,
 };
 use crate::tests::draws::name_realm;
-use crate::tests::rows::ALL_SOURCES;
+use crate::tests::rows::{NO, Row};
 use auth_events::{BookReply, Controller, Entry, Gift, TermsRef};
 use auth_text::{Bytes, NoMemory};
 use spaces::{Origins, Requests, Roster, Scheme, Space, Target};
@@ -21,8 +22,52 @@ const PROXY: &[u8] = b"http://p.example:3128/";
 /// The origin for which the default identity is allowed.
 const ALLOWED: &[u8] = b"http://n.example/";
 
-/// Whose credentials each gift is: by its space, its ordinal and its user.
-const GIFTS: &[(u32, u32, &[u8])] = &[(1, 1, b"u1"), (2, 1, b"ann"), (2, 2, b"u2"), (3, 1, b"u3")];
+/// Whose credentials a gift is: its space, its ordinal and its user.
+fn gift_row(n: u32) -> (u32, u32, &'static [u8]) {
+    match n {
+        0 => (1, 1, b"u1"),
+        1 => (2, 1, b"ann"),
+        2 => (2, 2, b"u2"),
+        _ => (3, 1, b"u3"),
+    }
+}
+
+/// A proxy's gift comes by an answer and the server's from the URL, whose terms are renewed and are
+/// then ready for another request. That one has them removed and is given others, which a third one
+/// shares. The default identity is told once.
+fn source_row(n: u32) -> Option<Row> {
+    let row = match n {
+        0 => Row(1, "begin", NO, "begun", NO),
+        1 => Row(1, "preempt", [1, 0, 0], "nothing", NO),
+        2 => Row(1, "preempt", NO, "nothing", NO),
+        3 => Row(1, "select", [1, 0, 0], "lead", [1, 1, 0]),
+        4 => Row(1, "answer", [1, 1, 0], "given", [1, 1, 0]),
+        5 => Row(1, "select", [2, 1, 0], "url", [2, 1, 0]),
+        6 => Row(1, "renew", [2, 1, 2], "renewed", NO),
+        7 => Row(1, "note", [1, 1, 0], "noted", NO),
+        8 => Row(1, "note", [2, 1, 0], "noted", NO),
+        9 => Row(1, "end", NO, "ended", NO),
+        10 => Row(2, "begin", NO, "begun", NO),
+        11 => Row(2, "preempt", NO, "ready", [2, 1, 2]),
+        12 => Row(2, "reject", [2, 1, 0], "removed", NO),
+        13 => Row(2, "select", [2, 1, 0], "lead", [2, 1, 0]),
+        14 => Row(2, "answer", [2, 2, 1], "given", [2, 2, 0]),
+        15 => Row(2, "end", NO, "ended", NO),
+        16 => Row(3, "begin", NO, "begun", NO),
+        17 => Row(3, "preempt", NO, "nothing", NO),
+        18 => Row(3, "select", [2, 1, 0], "cached", [2, 2, 0]),
+        19 => Row(3, "end", NO, "ended", NO),
+        20 => Row(4, "begin", NO, "begun", NO),
+        21 => Row(4, "preempt", NO, "nothing", NO),
+        22 => Row(4, "select", [3, 0, 0], "default", NO),
+        23 => Row(4, "reject", [3, 0, 0], "kept", NO),
+        24 => Row(4, "select", [3, 0, 0], "lead", [3, 1, 0]),
+        25 => Row(4, "answer", [3, 3, 0], "given", [3, 1, 0]),
+        26 => Row(4, "end", NO, "ended", NO),
+        _ => return None,
+    };
+    Some(row)
+}
 
 /// A request over a proxy with an identity in its URL, two of the same host, and one that may have the
 /// default identity.
@@ -133,21 +178,53 @@ pub(crate) fn is_space<B: Controller>(
     Ok(())
 }
 
+/// Plays the calls of all sources.
+fn play_sources<B: Controller>(rt: &impl Abort, book: &mut B, roster: &Roster)
+    requires { B.roster book.old ≡ roster.now }
+    ensures { B.roster book.new ≡ roster.now }
+{
+    for n in 0..100 {
+        if let Some(row) = source_row(n) {
+            play_one(rt, book, roster, row);
+        }
+    }
+}
+
+/// What the numbers stand for afterwards: gifts for their users, terms for their nonces, and spaces.
+fn stand_still<B: Controller>(rt: &impl Abort, alloc: Global, book: &B) -> Result<(), NoMemory> {
+    for n in 0..4 {
+        let (space, ordinal, user) = gift_row(n);
+        stands_for(rt, book, Gift { space, ordinal }, user)?;
+    }
+    has_nonce(rt, book, 1, b"n")?;
+    has_nonce(rt, book, 2, b"m")?;
+    is_space(rt, book, 1, &proxy_space(alloc)?)?;
+    is_space(rt, book, 3, &negotiate_space(alloc)?)
+}
+
 /// Identities of answers, of a URL and by default, and what their numbers stand for afterwards.
+fn sources_on<B: Controller>(
+    rt: &impl Abort,
+    alloc: Global,
+    book: &mut B,
+    roster: &Roster,
+) -> Result<(), NoMemory>
+    requires { B.roster book.old ≡ roster.now }
+{
+    name_things(rt, alloc, book, roster)?;
+    play_sources(rt, book, roster);
+    stand_still(rt, alloc, book)
+}
+
+fn sources_by_index(rt: &impl Abort, alloc: Global, roster: &Roster) -> Result<(), NoMemory> {
+    let mut book = opened_with_index(rt, alloc, roster)?;
+    sources_on(rt, alloc, &mut book, roster)
+}
+
+/// The same on a book that scans its journal and on one that decides by its index.
 pub(crate) fn all_sources(rt: &impl Abort, alloc: Global) -> Result<(), NoMemory> {
     let roster = roster(alloc)?;
+    sources_by_index(rt, alloc, &roster)?;
     let mut book = opened(rt, alloc, &roster)?;
-    name_things(rt, alloc, &mut book, &roster)?;
-    play(rt, &mut book, &roster, ALL_SOURCES);
-    for (space, ordinal, user) in GIFTS {
-        let gift = Gift {
-            space: *space,
-            ordinal: *ordinal,
-        };
-        stands_for(rt, &book, gift, user)?;
-    }
-    has_nonce(rt, &book, 1, b"n")?;
-    has_nonce(rt, &book, 2, b"m")?;
-    is_space(rt, &book, 1, &proxy_space(alloc)?)?;
-    is_space(rt, &book, 3, &negotiate_space(alloc)?)
+    sources_on(rt, alloc, &mut book, &roster)
 }
