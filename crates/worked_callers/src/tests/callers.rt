@@ -2,17 +2,18 @@
 //! reply that the history says.
 
 ghost use Rattle.std.specs.Prelude.{◌≡◌, ◌≤◌, ◌<◌, ◌+◌, ◌*◌, ◌++◌, ◌∷◌, [], All, length, IsTrue};
-ghost use Rattle.auth_events.specs.declared.journal.Entry.{Entry};
-ghost use Rattle.auth_events.specs.declared.told.Told.TheVariants.{Made};
-ghost use Rattle.auth_events.specs.Book.{begins};
-ghost use Rattle.shared_book.specs.Callers.{AreNewCallers, IsCallerOf, IsNewCaller};
-ghost use Rattle.worked_callers.specs.Crews.{IsNumbered};
+ghost use Rattle.auth_events.specs.declared.journal.BookReply.TheVariants.{Begun};
+ghost use Rattle.auth_events.specs.declared.journal.Call.TheVariants.{Begin};
+ghost use Rattle.auth_events.specs.declared.told.Told.TheVariants.{Made, TextNamed};
+ghost use Rattle.book_laws.specs.Shares.{HasSpaceLeft, HasTextLeft, begun, terms_named};
+ghost use Rattle.shared_book.specs.Callers.{IsCallerOf, IsSameCaller};
+ghost use Rattle.worked_callers.specs.Crews.{HasSameCounts, IsNumbered};
 
 use crate::may_call;
 use auth_events::{BookReply, Call};
 use auth_text::Identity;
 use plain_book::PlainBook;
-use shared_book::{Caller, Callers, SharedBook};
+use shared_book::{Caller, SharedBook};
 use spaces::{Roster, Space};
 use std::process::Abort;
 use std::sync::Wait;
@@ -20,35 +21,6 @@ use std::sync::Wait;
 pub(crate) type Shared = SharedBook<PlainBook>;
 
 pub(crate) type One = Caller<PlainBook>;
-
-/// The caller of the lowest number that is left in the list.
-pub(crate) fn next_caller(shared: &Shared, callers: &mut Callers<PlainBook>) -> One
-    requires some { 0 < length callers.old.list }
-    requires new { AreNewCallers shared.now callers.old.list }
-    ensures caller { IsNewCaller shared.now (length callers.new.list) result }
-    ensures rest { AreNewCallers shared.now callers.new.list }
-    ensures len { length callers.new.list + 1 ≡ length callers.old.list }
-    ensures room { (callers.new.room ≡ callers.old.room) × (length callers.new.list < callers.new.room) }
-{
-    let Some(last) = callers.pop() else {
-        unreachable!()
-    };
-    last
-}
-
-/// Puts a caller back.
-pub(crate) fn put_back(shared: &Shared, callers: &mut Callers<PlainBook>, caller: One)
-    requires all { All (IsCallerOf shared.now) callers.old.list }
-    requires caller { IsCallerOf shared.now caller }
-    requires room { length callers.old.list < callers.old.room }
-    ensures all { All (IsCallerOf shared.now) callers.new.list }
-    ensures len { length callers.new.list ≡ length callers.old.list + 1 }
-    ensures room { callers.old.room ≤ callers.new.room }
-{
-    let Ok(()) = callers.push(caller) else {
-        unreachable!()
-    };
-}
 
 /// The call of the request that has the caller's number, where it is allowed.
 pub(crate) fn calls<R: Wait + Abort>(
@@ -91,6 +63,61 @@ pub(crate) fn waits<R: Wait + Abort>(
     shared.wait_answer(rt, caller, number, prompt)
 }
 
+// Names the space of number 1.
+#[tactic(auto, using(crate::proofs::Left::space_counts))]
+fn names_space<R: Wait + Abort>(rt: &R, shared: &Shared, caller: One, space: &Space) -> One
+    requires caller { IsCallerOf shared.now caller }
+    requires left { HasSpaceLeft caller.mine caller.seen space.now }
+    ensures caller { IsCallerOf shared.now result }
+    ensures same { IsSameCaller caller result }
+    ensures counts { HasSameCounts caller.mine result.mine }
+{
+    let (caller, named) = shared.space_no(rt, caller, space);
+    let Ok(named) = named else {
+        panic!(rt; "no memory");
+    };
+    assert!(rt; named == 1);
+    caller
+}
+
+// Names a text, and tells its number.
+fn names_text<R: Wait + Abort>(rt: &R, shared: &Shared, caller: One, text: &Identity) -> (One, u32)
+    requires caller { IsCallerOf shared.now caller }
+    requires left { HasTextLeft caller.mine }
+    ensures caller { IsCallerOf shared.now result.0 }
+    ensures same { IsSameCaller caller result.0 }
+    ensures mine { result.0.mine ≡ caller.mine ++ TextNamed caller.number text.now ∷ [] }
+{
+    let (caller, named) = shared.text_no(rt, caller, text);
+    let Ok(named) = named else {
+        panic!(rt; "no memory");
+    };
+    (caller, named)
+}
+
+// Begins the caller's first request.
+fn begins_first<R: Wait + Abort>(
+    rt: &R,
+    shared: &Shared,
+    roster: &Roster,
+    caller: One,
+    number: u32,
+) -> One
+    requires caller { IsCallerOf shared.now caller }
+    requires first { caller.mine ≡ [] }
+    requires number { (caller.number ≡ number) × (1 ≤ number) × (number ≤ shared.now.callers) }
+    requires roster { shared.now.roster ≡ roster.now }
+    ensures caller { IsCallerOf shared.now result }
+    ensures same { IsSameCaller caller result }
+    ensures mine { result.mine ≡ Made (record { caller = number; request = number; call = Begin; reply = Begun }) ∷ [] }
+{
+    let (caller, may) = may_call(rt, shared, roster, caller, number, number, Call::Begin);
+    assert!(rt; may);
+    let (caller, reply) = shared.call(rt, caller, number, Call::Begin);
+    assert!(rt; reply == BookReply::Begun);
+    caller
+}
+
 /// Begins the caller's first request, and names the space and two texts.
 pub(crate) fn begins_and_names<R: Wait + Abort>(
     rt: &R,
@@ -107,22 +134,13 @@ pub(crate) fn begins_and_names<R: Wait + Abort>(
     requires roster { shared.now.roster ≡ roster.now }
     ensures caller { IsCallerOf shared.now result }
     ensures number { result.number ≡ number }
+    ensures quota { result.quota ≡ caller.quota }
+    ensures begun { 1 ≤ begun result.mine }
+    ensures none { terms_named result.mine ≡ 0 }
 {
-    let (caller, may) = may_call(rt, shared, roster, caller, number, number, Call::Begin);
-    assert!(rt; may);
-    let (caller, reply) = shared.call(rt, caller, number, Call::Begin);
-    let (caller, first) = shared.text_no(rt, caller, text);
-    let Ok(first) = first else {
-        panic!(rt; "no memory");
-    };
-    let (caller, second) = shared.text_no(rt, caller, text);
-    let Ok(second) = second else {
-        panic!(rt; "no memory");
-    };
-    let (caller, named) = shared.space_no(rt, caller, space);
-    let Ok(named) = named else {
-        panic!(rt; "no memory");
-    };
-    assert!(rt; reply == BookReply::Begun && first == 1 && second == 2 && named == 1);
-    caller
+    let caller = begins_first(rt, shared, roster, caller, number);
+    let (caller, first) = names_text(rt, shared, caller, text);
+    let (caller, second) = names_text(rt, shared, caller, text);
+    assert!(rt; first < second);
+    names_space(rt, shared, caller, space)
 }

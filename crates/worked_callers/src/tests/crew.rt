@@ -4,7 +4,8 @@ ghost use Rattle.std.specs.Prelude.{◌≡◌, ◌≤◌, ◌<◌, [], All, leng
 ghost use Rattle.shared_book.specs.Callers.{AreNewCallers, IsCallerOf};
 ghost use Rattle.worked_callers.specs.Crews.{IsNumbered};
 
-use crate::tests::callers::{One, Shared, calls, next_caller, put_back, waits};
+use crate::tests::callers::{One, Shared, calls, waits};
+use crate::{next_caller, put_back};
 use auth_events::{BookReply, Call};
 use plain_book::PlainBook;
 use shared_book::Callers;

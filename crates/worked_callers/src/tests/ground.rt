@@ -4,7 +4,8 @@ ghost use Rattle.std.specs.Prelude.{◌≡◌, IfOk, length};
 
 use auth_text::{Bytes, Identity, NoMemory};
 use spaces::{
-    Method, Origins, Partition, Request, Requests, Roster, Scheme, Site, Space, Target, place_of,
+    Algorithm, Method, Origins, Partition, Qop, Request, Requests, Roster, Scheme, Site, Space,
+    Target, Terms, place_of,
 };
 use std::alloc::Global;
 
@@ -37,6 +38,15 @@ pub(crate) fn roster_of_three(alloc: Global) -> Result<Roster, NoMemory>
     })
 }
 
+/// Four requests of one URL.
+pub(crate) fn roster_of_four(alloc: Global) -> Result<Roster, NoMemory>
+    ensures { IfOk result (λ roster. length roster.requests ≡ 4) }
+{
+    let mut roster = roster_of_three(alloc)?;
+    roster.requests.push(request(alloc)?)?;
+    Ok(roster)
+}
+
 fn server(alloc: Global) -> Result<Site, NoMemory> {
     let asked = request(alloc)?;
     Ok(Site {
@@ -51,6 +61,28 @@ pub(crate) fn basic(alloc: Global) -> Result<Space, NoMemory> {
     let site = server(alloc)?;
     let realm = Bytes::from_slice(alloc, b"x")?;
     Ok(Space::new(site, Scheme::Basic, realm))
+}
+
+/// A Digest space of their server.
+pub(crate) fn digest(alloc: Global) -> Result<Space, NoMemory> {
+    let site = server(alloc)?;
+    let realm = Bytes::from_slice(alloc, b"d")?;
+    Ok(Space::new(site, Scheme::Digest, realm))
+}
+
+/// Terms of that Digest space.
+pub(crate) fn terms(alloc: Global) -> Result<Terms, NoMemory> {
+    let realm = Bytes::from_slice(alloc, b"d")?;
+    let nonce = Bytes::from_slice(alloc, b"n")?;
+    Ok(Terms {
+        algorithm: Algorithm::Sha256,
+        said: true,
+        realm,
+        nonce,
+        opaque: None,
+        qop: Qop::Auth,
+        userhash: false,
+    })
 }
 
 /// An identity that a prompt is answered with.
