@@ -61,13 +61,13 @@ fn serve<S: Source, K: Sink>(
 ) -> Status
     ensures done { result ≡ Status.Done
         → IsServed command seed (S.left input.old) (S.left input.new)
-            (K.held output.old) (K.held output.new) }
+        (K.held output.old) (K.held output.new) }
     ensures part { result ≡ Status.WriteFault
         → IsServedInPart command seed (S.left input.old) (S.left input.new)
-            (K.held output.old) (K.held output.new) }
+        (K.held output.old) (K.held output.new) }
     ensures spent { result ≡ Status.NoMemory → (K.held output.new ≡ K.held output.old)
         ⊎ IsServedInPart command seed (S.left input.old) (S.left input.new)
-            (K.held output.old) (K.held output.new) }
+        (K.held output.old) (K.held output.new) }
     ensures silent { IsSilent result (K.held output.old) (K.held output.new) }
     ensures caused { IsCaused command result (S.left input.old) (S.left input.new) }
     ensures read_fault { result ≡ Status.ReadFault
@@ -112,7 +112,7 @@ pub fn authfetch_alone<S: Source, K: Sink>(
     // which for `alone` is the report of a run of the session.
     ensures done { (asked : Command) → command words.now ≡ Some asked → result ≡ Status.Done
         → IsServed asked seed (S.left input.old) (S.left input.new)
-            (K.held output.old) (K.held output.new) }
+        (K.held output.old) (K.held output.new) }
 
     // In the journal that `alone` prints each request ends, every prompt has exactly one answer or loss,
     // and who follows a prompt takes its end behind that, exactly once.
@@ -139,11 +139,11 @@ pub fn authfetch_alone<S: Source, K: Sink>(
     // Where it isn't done, a front of that text was written, and for most faults nothing.
     ensures part { (asked : Command) → command words.now ≡ Some asked → result ≡ Status.WriteFault
         → IsServedInPart asked seed (S.left input.old) (S.left input.new)
-            (K.held output.old) (K.held output.new) }
+        (K.held output.old) (K.held output.new) }
     ensures spent { (asked : Command) → command words.now ≡ Some asked → result ≡ Status.NoMemory
         → (K.held output.new ≡ K.held output.old)
         ⊎ IsServedInPart asked seed (S.left input.old) (S.left input.new)
-            (K.held output.old) (K.held output.new) }
+        (K.held output.old) (K.held output.new) }
     ensures silent { IsSilent result (K.held output.old) (K.held output.new) }
 {
     match command_of(words) {
@@ -169,7 +169,7 @@ pub fn authfetch<R, S: Source, K: Sink, D: Dialer + Send, T: Tokens + Send>(
     // The headline, and each status' cause, as above.
     ensures done { (asked : Command) → command words.now ≡ Some asked → result.0 ≡ Status.Done
         → IsServed asked seed (S.left input.old) (S.left input.new)
-            (K.held output.old) (K.held output.new) }
+        (K.held output.old) (K.held output.new) }
     ensures closed { command words.now ≡ Some Command.Alone → result.0 ≡ Status.Done
         → WasClosed seed (K.held output.old) (K.held output.new) }
     ensures caused { (asked : Command) → command words.now ≡ Some asked
@@ -187,11 +187,11 @@ pub fn authfetch<R, S: Source, K: Sink, D: Dialer + Send, T: Tokens + Send>(
         → (result.0 ≡ expected asked text) ⊎ (result.0 ≡ Status.NoMemory) }
     ensures part { (asked : Command) → command words.now ≡ Some asked → result.0 ≡ Status.WriteFault
         → IsServedInPart asked seed (S.left input.old) (S.left input.new)
-            (K.held output.old) (K.held output.new) }
+        (K.held output.old) (K.held output.new) }
     ensures spent { (asked : Command) → command words.now ≡ Some asked → result.0 ≡ Status.NoMemory
         → (K.held output.new ≡ K.held output.old)
         ⊎ IsServedInPart asked seed (S.left input.old) (S.left input.new)
-            (K.held output.old) (K.held output.new) }
+        (K.held output.old) (K.held output.new) }
     ensures silent { IsSilent result.0 (K.held output.old) (K.held output.new) }
 {
     let status = authfetch_alone(alloc, words, input, output, seed);
