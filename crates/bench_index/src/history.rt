@@ -5,7 +5,7 @@ ghost use Rattle.std.specs.Prelude.{◌≡◌};
 
 use crate::names::{Numbers, name_pair, name_text};
 use crate::roster::PAIRS;
-use crate::times::Time;
+use crate::times::{Meter, Time};
 use auth_events::{BookReply, Call, Controller, Gift, Loss};
 use auth_text::NoMemory;
 use plain_book::is_allowed;
@@ -20,11 +20,14 @@ const TIMED: u32 = 32;
 /// How often the two of a pair take turns: so each makes fewer calls than it may.
 const TURNS: u32 = 9;
 
+/// How many pairs take none, so that as many spaces as a partition keeps are live early on.
+const SHORT: u32 = 32;
+
 /// The reply to a call of the caller that has the request's number, where the call is allowed. Its time is
 /// that of the call alone, and not that of the look whether it is allowed, which scans the journal.
 fn timed<C: Clock, B: Controller>(
     clock: &C,
-    times: &mut Vec<Time>,
+    meter: &mut Meter,
     book: &mut B,
     roster: &Roster,
     request: u32,
@@ -38,18 +41,19 @@ fn timed<C: Clock, B: Controller>(
     if !is_allowed(roster, names, entries, request, request, call) {
         return None;
     }
+    meter.sweep();
     let start = Instant::now(clock).ok()?;
     let did = book.call(request, request, call);
     let spent = start.elapsed(clock).ok()?;
     let nanos = spent.subsec_nanos();
-    times.push(Time { call, nanos }).ok()?;
+    meter.add(call, nanos).ok()?;
     Some(did.reply)
 }
 
 /// The prompt that the request leads and the other one follows.
 fn prompted<C: Clock, B: Controller>(
     clock: &C,
-    times: &mut Vec<Time>,
+    meter: &mut Meter,
     book: &mut B,
     roster: &Roster,
     requests: (u32, u32),
@@ -62,8 +66,8 @@ fn prompted<C: Clock, B: Controller>(
         space: numbers.space,
         terms: numbers.terms,
     };
-    let led = timed(clock, times, book, roster, requests.0, select)?;
-    timed(clock, times, book, roster, requests.1, select)?;
+    let led = timed(clock, meter, book, roster, requests.0, select)?;
+    timed(clock, meter, book, roster, requests.1, select)?;
     match led {
         BookReply::Lead { prompt, .. } => Some(prompt),
         _ => None,
@@ -73,7 +77,7 @@ fn prompted<C: Clock, B: Controller>(
 /// The gift of a prompt that is answered, once it was used, renewed and noted.
 fn answered<C: Clock, B: Controller>(
     clock: &C,
-    times: &mut Vec<Time>,
+    meter: &mut Meter,
     book: &mut B,
     roster: &Roster,
     requests: (u32, u32),
@@ -82,7 +86,7 @@ fn answered<C: Clock, B: Controller>(
     requires { B.roster book.old ≡ roster.now }
     ensures { B.roster book.new ≡ roster.now }
 {
-    let prompt = prompted(clock, times, book, roster, requests, numbers)?;
+    let prompt = prompted(clock, meter, book, roster, requests, numbers)?;
     let Numbers {
         space,
         terms,
@@ -93,13 +97,13 @@ fn answered<C: Clock, B: Controller>(
         text: 1,
         terms,
     };
-    let BookReply::Given { gift, .. } = timed(clock, times, book, roster, requests.0, answer)?
+    let BookReply::Given { gift, .. } = timed(clock, meter, book, roster, requests.0, answer)?
     else {
         return None;
     };
     timed(
         clock,
-        times,
+        meter,
         book,
         roster,
         requests.1,
@@ -110,7 +114,7 @@ fn answered<C: Clock, B: Controller>(
         terms: renewed,
     };
     for call in [Call::Select { space, terms }, renew, Call::Note { gift }] {
-        timed(clock, times, book, roster, requests.0, call)?;
+        timed(clock, meter, book, roster, requests.0, call)?;
     }
     Some(gift)
 }
@@ -118,7 +122,7 @@ fn answered<C: Clock, B: Controller>(
 /// A gift that was used is rejected, and the next prompt is lost.
 fn take_turn<C: Clock, B: Controller>(
     clock: &C,
-    times: &mut Vec<Time>,
+    meter: &mut Meter,
     book: &mut B,
     roster: &Roster,
     requests: (u32, u32),
@@ -127,16 +131,16 @@ fn take_turn<C: Clock, B: Controller>(
     requires { B.roster book.old ≡ roster.now }
     ensures { B.roster book.new ≡ roster.now }
 {
-    let Gift { space, ordinal } = answered(clock, times, book, roster, requests, numbers)?;
+    let Gift { space, ordinal } = answered(clock, meter, book, roster, requests, numbers)?;
     let reject = Call::Reject { space, ordinal };
-    timed(clock, times, book, roster, requests.0, reject)?;
-    lost(clock, times, book, roster, requests, numbers)
+    timed(clock, meter, book, roster, requests.0, reject)?;
+    lost(clock, meter, book, roster, requests, numbers)
 }
 
 /// A prompt is lost.
 fn lost<C: Clock, B: Controller>(
     clock: &C,
-    times: &mut Vec<Time>,
+    meter: &mut Meter,
     book: &mut B,
     roster: &Roster,
     requests: (u32, u32),
@@ -145,11 +149,11 @@ fn lost<C: Clock, B: Controller>(
     requires { B.roster book.old ≡ roster.now }
     ensures { B.roster book.new ≡ roster.now }
 {
-    let prompt = prompted(clock, times, book, roster, requests, numbers)?;
+    let prompt = prompted(clock, meter, book, roster, requests, numbers)?;
     let loss = Loss::Fault(1);
     timed(
         clock,
-        times,
+        meter,
         book,
         roster,
         requests.0,
@@ -157,7 +161,7 @@ fn lost<C: Clock, B: Controller>(
     )?;
     timed(
         clock,
-        times,
+        meter,
         book,
         roster,
         requests.1,
@@ -169,7 +173,7 @@ fn lost<C: Clock, B: Controller>(
 /// Serves a pair, whose space then stays live.
 fn serve<C: Clock, B: Controller>(
     clock: &C,
-    times: &mut Vec<Time>,
+    meter: &mut Meter,
     book: &mut B,
     roster: &Roster,
     pair: u32,
@@ -182,20 +186,21 @@ fn serve<C: Clock, B: Controller>(
     let second = first + 1;
     let target = Target::Server;
     for call in [Call::Begin, Call::Preempt { target }] {
-        timed(clock, times, book, roster, first, call)?;
-        timed(clock, times, book, roster, second, call)?;
+        timed(clock, meter, book, roster, first, call)?;
+        timed(clock, meter, book, roster, second, call)?;
     }
-    for turn in 0..TURNS {
+    let turns = if pair < SHORT { 0 } else { TURNS };
+    for turn in 0..turns {
         let requests = if turn % 2 == 0 {
             (first, second)
         } else {
             (second, first)
         };
-        take_turn(clock, times, book, roster, requests, numbers)?;
+        take_turn(clock, meter, book, roster, requests, numbers)?;
     }
-    answered(clock, times, book, roster, (second, first), numbers)?;
-    timed(clock, times, book, roster, first, Call::End)?;
-    timed(clock, times, book, roster, second, Call::End)?;
+    answered(clock, meter, book, roster, (second, first), numbers)?;
+    timed(clock, meter, book, roster, first, Call::End)?;
+    timed(clock, meter, book, roster, second, Call::End)?;
     Some(())
 }
 
@@ -211,19 +216,18 @@ pub fn played<C: Clock, B: Controller>(
     requires { B.roster book.old ≡ roster.now }
 {
     name_text(alloc, book, roster)?;
-    let mut times = Vec::new(alloc);
+    let mut meter = Meter::new(alloc)?;
     let mut left = TIMED;
     for pair in 0..PAIRS {
         if left == 0 {
-            return Ok(Some(times));
+            return Ok(Some(meter.times));
         }
-        if book.journal().entries().len() < entries {
-            times.clear();
-        } else {
+        if book.journal().entries().len() >= entries {
+            meter.is_on = true;
             left -= 1;
         }
         let numbers = name_pair(alloc, book, roster, pair)?;
-        if serve(clock, &mut times, book, roster, pair, numbers).is_none() {
+        if serve(clock, &mut meter, book, roster, pair, numbers).is_none() {
             return Ok(None);
         }
     }

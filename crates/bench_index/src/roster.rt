@@ -1,4 +1,4 @@
-//! The requests: each two that follow each other have a host of their own, in one of eight partitions.
+//! The requests: each two that follow each other have a host of their own.
 
 use auth_text::{Bytes, NoMemory};
 use spaces::{
@@ -28,8 +28,8 @@ fn place(alloc: Global, pair: u32) -> Result<Place, NoMemory> {
     }
 }
 
-fn partition(alloc: Global, pair: u32) -> Result<Partition, NoMemory> {
-    match Partition::new(alloc, &[b'p', digit(pair % 8)]) {
+fn partition(alloc: Global) -> Result<Partition, NoMemory> {
+    match Partition::new(alloc, b"main") {
         Ok(partition) => Ok(partition),
         Err(_) => Err(NoMemory),
     }
@@ -38,7 +38,7 @@ fn partition(alloc: Global, pair: u32) -> Result<Partition, NoMemory> {
 fn request(alloc: Global, pair: u32) -> Result<Request, NoMemory> {
     Ok(Request {
         method: Method::Get,
-        partition: partition(alloc, pair)?,
+        partition: partition(alloc)?,
         place: place(alloc, pair)?,
         proxy: None,
     })
@@ -60,7 +60,7 @@ pub fn roster(alloc: Global) -> Result<Roster, NoMemory> {
 /// The Digest space of a pair's host.
 pub fn space(alloc: Global, pair: u32) -> Result<Space, NoMemory> {
     let site = Site {
-        partition: partition(alloc, pair)?,
+        partition: partition(alloc)?,
         target: Target::Server,
         origin: place(alloc, pair)?.origin,
     };
