@@ -1,7 +1,9 @@
-//! A book that records in a ledger, and decides by its index. The journal is kept for those who read
-//! it; no reply is looked for in it, and no name among the names: their numbers are found in maps.
+//! A book that records in a ledger, and decides by its index. The journal is kept for those who
+//! read it; no reply is looked for in it, and no name among the names: their numbers are found in
+//! maps.
 
-ghost use Rattle.std.specs.Prelude.{◌≡◌, ◌≤◌, ◌<◌, ◌*◌, IsTrue, Some, is_some, length, option_map, reverse};
+ghost use Rattle.std.specs.Prelude.{◌≡◌, ◌≤◌, ◌<◌, ◌*◌, IsTrue, Some, is_some, length, option_map};
+ghost use Rattle.std.specs.Prelude.{reverse};
 ghost use Rattle.spaces.specs.Sites.{numbered};
 ghost use Rattle.gift_log.specs.Gifts.{givings_of};
 ghost use Rattle.auth_book.specs.Indices.{StandsFor};
@@ -17,8 +19,8 @@ use name_index::NameIndex;
 use spaces::{Roster, Space, Terms, copy_identity};
 use std::alloc::Global;
 
-/// A book that decides by its index, and finds names by ordered maps. The index stands for its journal,
-/// and the maps know its names.
+/// A book that decides by its index, and finds names by ordered maps. The index stands for its
+/// journal, and the maps know its names.
 #[derive(Drop)]
 pub struct AuthBook {
     ledger: Ledger,
@@ -51,16 +53,19 @@ fn terms_ref(names: &Names, terms: u32) -> TermsRef
 }
 
 impl AuthBook {
-    ghost use Rattle.std.specs.Prelude.{◌≡◌, ◌≤◌, ◌++◌, ◌∷◌, [], length, reverse, IsTrue, IfOk, IfSome, Some, None, OnErr, OnOk, if◌then◌else◌};
+    ghost use Rattle.std.specs.Prelude.{◌≡◌, ◌≤◌, ◌++◌, ◌∷◌, [], length, reverse, IsTrue, IfOk};
+    ghost use Rattle.std.specs.Prelude.{IfSome, Some, None, OnErr, OnOk, if◌then◌else◌};
     ghost use Rattle.spaces.specs.Sites.{numbered};
-    ghost use Rattle.auth_events.specs.Tables.{is_home, no_names, space_number, terms_number, with_new_space};
+    ghost use Rattle.auth_events.specs.Tables.{is_home, no_names, space_number, terms_number};
+    ghost use Rattle.auth_events.specs.Tables.{with_new_space};
     ghost use Rattle.auth_events.specs.Book as Book;
     ghost use Rattle.auth_events.specs.Ledgers.{told_of};
     ghost use Rattle.auth_book.specs.Fits.{made};
-    ghost use Rattle.auth_events.specs.Told.{MayNameSpace, MayNameTerms, is_pending, journal, names_told, told_space, told_terms};
+    ghost use Rattle.auth_events.specs.Told.{MayNameSpace, MayNameTerms, is_pending, journal};
+    ghost use Rattle.auth_events.specs.Told.{names_told, told_space, told_terms};
 
-    /// A book with no entries and no names. It takes the journal and the prompts at once; the cache and
-    /// the directories of a partition are taken by the first `space_no` in it.
+    /// A book with no entries and no names. It takes the journal and the prompts at once; the cache
+    /// and the directories of a partition are taken by the first `space_no` in it.
     pub fn new(alloc: Global, roster: &Roster) -> Result<AuthBook, NoMemory>
         requires { length roster.now.requests ≤ 2048 }
         ensures roster { IfOk result (λ book. ⟦<AuthBook as Controller>⟧.roster book ≡ roster.now) }
@@ -95,7 +100,8 @@ impl AuthBook {
         ensures roster { result.0 ≡ ⟦<AuthBook as Controller>⟧.roster self }
         ensures names { result.1 ≡ names_told (⟦<AuthBook as Controller>⟧.told self) }
         ensures entries { result.2.entries ≡ journal (⟦<AuthBook as Controller>⟧.told self) }
-        ensures requests { result.2.requests ≡ length (⟦<AuthBook as Controller>⟧.roster self).requests }
+        ensures requests { result.2.requests
+            ≡ length (⟦<AuthBook as Controller>⟧.roster self).requests }
     {
         self.ledger.into_parts()
     }
@@ -138,11 +144,10 @@ impl AuthBook {
         requires new { space_number self.old.ledger.names space.now ≡ None }
         ensures number { IfOk result
             (λ number. numbered self.new.ledger.names.spaces number ≡ Some space.now) }
-        ensures told { OnOk result
-            (told_of self.new.ledger.names self.new.ledger.made.items self.new.ledger.journal.entries
-            ≡ told_space caller self.old.ledger.names
-            (told_of self.old.ledger.names self.old.ledger.made.items self.old.ledger.journal.entries)
-            space.now) }
+        ensures told { OnOk result (told_of self.new.ledger.names self.new.ledger.made.items
+            self.new.ledger.journal.entries ≡ told_space caller self.old.ledger.names
+            (told_of self.old.ledger.names
+            self.old.ledger.made.items self.old.ledger.journal.entries) space.now) }
         ensures entries { self.new.ledger.journal ≡ self.old.ledger.journal }
         ensures roster { self.new.ledger.roster ≡ self.old.ledger.roster }
         ensures names { OnErr result (self.new.ledger.names ≡ self.old.ledger.names) }
@@ -165,11 +170,10 @@ impl AuthBook {
         ensures number { IfOk result (λ numbers.
             numbered self.new.ledger.names.terms numbers.terms
             ≡ Some (record { space = space; terms = terms.now; nonce = numbers.nonce })) }
-        ensures told { OnOk result
-            (told_of self.new.ledger.names self.new.ledger.made.items self.new.ledger.journal.entries
-            ≡ told_terms caller self.old.ledger.names
-            (told_of self.old.ledger.names self.old.ledger.made.items self.old.ledger.journal.entries)
-            space terms.now) }
+        ensures told { OnOk result (told_of self.new.ledger.names self.new.ledger.made.items
+            self.new.ledger.journal.entries ≡ told_terms caller self.old.ledger.names
+            (told_of self.old.ledger.names
+            self.old.ledger.made.items self.old.ledger.journal.entries) space terms.now) }
         ensures entries { self.new.ledger.journal ≡ self.old.ledger.journal }
         ensures roster { self.new.ledger.roster ≡ self.old.ledger.roster }
         ensures names { OnErr result (self.new.ledger.names ≡ self.old.ledger.names) }
@@ -186,11 +190,13 @@ impl Controller for AuthBook {
     ghost use Rattle.std.proofs.Common.{sym, subst, ap, ◌∙◌};
     ghost use Rattle.std.proofs.Math.Logic.{∥∥₁_elim};
     ghost use Rattle.auth_events.specs.Ledgers.{told_of};
-    ghost use Rattle.auth_events.proofs.LedgerLaws.{legal, legal_throughout, no_draw, told_names, are_names, few};
+    ghost use Rattle.auth_events.proofs.LedgerLaws.{legal, legal_throughout, no_draw, told_names};
+    ghost use Rattle.auth_events.proofs.LedgerLaws.{are_names, few};
 
     ghost roster = { λ book. book.ledger.roster };
 
-    ghost told = { λ book. told_of book.ledger.names book.ledger.made.items book.ledger.journal.entries };
+    ghost told = { λ book.
+        told_of book.ledger.names book.ledger.made.items book.ledger.journal.entries };
 
     ghost names = { λ book. book.ledger.names };
 

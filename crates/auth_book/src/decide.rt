@@ -1,12 +1,13 @@
-//! The index decides a call: its reply is read off the index, and then each part of the index is told
-//! the entry. The journal isn't at hand.
+//! The index decides a call: its reply is read off the index, and then each part of the index is
+//! told the entry. The journal isn't at hand.
 
 ghost use Rattle.std.specs.Prelude.{◌≡◌, ℕ, IsTrue, List, length};
 ghost use Rattle.auth_events.specs.declared.journal.Entry.{Entry};
 ghost use Rattle.auth_events.specs.Book as Book;
 ghost use Rattle.auth_events.specs.Told.{is_pending, retired_by};
 ghost use Rattle.auth_book.specs.Indices.{StandsFor};
-ghost use Rattle.auth_book.specs.Fits.{AreOfBook, CacheFits, CanTell, MayDecide, PathsFit, made, past_after};
+ghost use Rattle.auth_book.specs.Fits.{AreOfBook, CacheFits, CanTell, MayDecide, PathsFit, made};
+ghost use Rattle.auth_book.specs.Fits.{past_after};
 ghost use Rattle.auth_book.specs.Steps.{IsTold, nonce_out, parts_by_row, retired_in};
 ghost use Rattle.auth_book.specs.Parts.{notes_at};
 ghost use Rattle.auth_book.specs.Replies.{entries_in, part_in};
@@ -84,9 +85,9 @@ impl BookIndex {
         out
     }
 
-    /// Decides the call. It takes no memory. For every legal history that the index stands for and on
-    /// which the call may be made, the reply is the book's, and the index then stands for the history
-    /// with this entry.
+    /// Decides the call. It takes no memory. For every legal history that the index stands for and
+    /// on which the call may be made, the reply is the book's, and the index then stands for the
+    /// history with this entry.
     pub fn decide(&mut self, roster: &Roster, names: &Names, request: u32, call: Call) -> Did
         requires book { AreOfBook roster.now names.now }
         requires may { ∥ MayDecide self.old roster.now names.now request call ∥₁ }

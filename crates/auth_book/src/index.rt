@@ -64,7 +64,8 @@ const FRESH: RequestRow = RequestRow {
 };
 
 impl BookIndex {
-    ghost use Rattle.std.specs.Prelude.{◌≡◌, ◌≤◌, ◌<◌, ◌+◌, ◌++◌, ◌∷◌, [], IfOk, IfSome, IsTrue, OnOk, OnErr, List, is_some, length, max};
+    ghost use Rattle.std.specs.Prelude.{◌≡◌, ◌≤◌, ◌<◌, ◌+◌, ◌++◌, ◌∷◌, [], IfOk, IfSome, IsTrue};
+    ghost use Rattle.std.specs.Prelude.{OnOk, OnErr, List, is_some, length, max};
     ghost use Rattle.spaces.specs.declared.roster.Roster.{Roster};
     ghost use Rattle.auth_events.specs.declared.journal.Entry.{Entry};
     ghost use Rattle.spaces.specs.ProtectionSpaces.{ProtectionSpace};
@@ -75,7 +76,8 @@ impl BookIndex {
     ghost use Rattle.auth_book.specs.Parts.{part_of};
     ghost use Rattle.auth_book.specs.Indices.{StandsFor, part_no, space_row};
 
-    /// Takes all memory but that of the spaces and partitions. The index stands for the empty history.
+    /// Takes all memory but that of the spaces and partitions. The index stands for the empty
+    /// history.
     pub fn new(alloc: Global, roster: &Roster) -> Result<BookIndex, NoMemory>
         requires { length roster.now.requests ≤ 2048 }
         ensures stands { IfOk result (λ index. StandsFor index roster.now no_names []) }
@@ -99,7 +101,8 @@ impl BookIndex {
     pub fn prepare(&mut self, space: u32, partition: &Partition) -> Result<(), NoMemory>
         requires { space ≡ length self.old.spaces.items + 1 }
         ensures ok { OnOk result (self.new.prepared ≡ max self.old.prepared space) }
-        ensures record { OnOk result (IsTrue (is_some (part_of self.new.partitions partition.now))) }
+        ensures record { OnOk result
+            (IsTrue (is_some (part_of self.new.partitions partition.now))) }
         ensures err { OnErr result (self.new.prepared ≡ self.old.prepared) }
         ensures rows { self.new.spaces.items ≡ self.old.spaces.items }
         ensures stands { (roster : Roster) (names : Tables) (past : List Entry)
@@ -114,17 +117,17 @@ impl BookIndex {
         Ok(())
     }
 
-    /// Gives the space that was named last its row. It takes no memory. Under these names the index then
-    /// stands for the histories for which it stood under the names without that space.
+    /// Gives the space that was named last its row. It takes no memory. Under these names the index
+    /// then stands for the histories for which it stood under the names without that space.
     pub fn add_space(&mut self, names: &Names)
         requires count { length names.now.spaces ≡ length self.old.spaces.items + 1 }
         requires prepared { self.old.prepared ≡ length names.now.spaces }
         requires record { IfSome (numbered names.now.spaces (length names.now.spaces))
             (λ space. IsTrue (is_some (part_of self.old.partitions space.site.partition))) }
-        ensures stands { (roster : Roster) (before : Tables) (space : ProtectionSpace)
-            (past : List Entry) → names.now ≡ with_space before space
-            → AreNames before → IsLegalPast roster before past → StandsFor self.old roster before past
-            → StandsFor self.new roster names.now past }
+        ensures stands { (roster : Roster)
+            (before : Tables) (space : ProtectionSpace) (past : List Entry) → names.now
+            ≡ with_space before space → AreNames before → IsLegalPast roster before past
+            → StandsFor self.old roster before past → StandsFor self.new roster names.now past }
         ensures row { self.new.spaces.items ≡ self.old.spaces.items
             ++ space_row names.now self.old.partitions [] (length names.now.spaces) ∷ [] }
         ensures partitions { self.new.partitions ≡ self.old.partitions }
@@ -144,10 +147,10 @@ impl BookIndex {
         requires prepared { self.old.prepared ≡ length names.now.spaces }
         requires record { IfSome (numbered names.now.spaces (length names.now.spaces))
             (λ space. IsTrue (is_some (part_of self.old.partitions space.site.partition))) }
-        ensures stands { (roster : Roster) (before : Tables) (space : ProtectionSpace)
-            (past : List Entry) → names.now ≡ with_space before space
-            → AreNames before → IsLegalPast roster before past → StandsFor self.old roster before past
-            → StandsFor self.new roster names.now past }
+        ensures stands { (roster : Roster)
+            (before : Tables) (space : ProtectionSpace) (past : List Entry) → names.now
+            ≡ with_space before space → AreNames before → IsLegalPast roster before past
+            → StandsFor self.old roster before past → StandsFor self.new roster names.now past }
         ensures row { self.new.spaces.items ≡ self.old.spaces.items
             ++ space_row names.now self.old.partitions [] (length names.now.spaces) ∷ [] }
         ensures partitions { self.new.partitions ≡ self.old.partitions }

@@ -1,13 +1,14 @@
-//! An index that stands for a history replies as its book, and stands for the history with the entry
-//! once it was told of it. Each law is the contract of a function that does nothing, so the check
-//! proves it for all legal histories of any book.
+//! An index that stands for a history replies as its book, and stands for the history with the
+//! entry once it was told of it. Each law is the contract of a function that does nothing, so the
+//! check proves it for all legal histories of any book.
 
 ghost use Rattle.std.specs.Prelude.{◌≡◌, ◌∷◌, ◌++◌, ◌+◌, [], ℕ, IsTrue, List, is_some, length};
 ghost use Rattle.spaces.specs.ProtectionSpaces.{ProtectionSpace};
 ghost use Rattle.spaces.specs.declared.roster.Roster.{Roster};
 ghost use Rattle.auth_events.specs.declared.journal.Call.{Call};
 ghost use Rattle.auth_events.specs.declared.journal.Entry.{Entry};
-ghost use Rattle.auth_events.specs.Tables.{AreFew, AreNames, Tables, with_space, with_terms, with_text};
+ghost use Rattle.auth_events.specs.Tables.{AreFew, AreNames, Tables, with_space, with_terms};
+ghost use Rattle.auth_events.specs.Tables.{with_text};
 ghost use Rattle.auth_events.specs.declared.names.TermsName.{TermsName};
 ghost use Rattle.auth_text.specs.Login.{Login};
 ghost use Rattle.auth_events.specs.Book.{IsLegalPast, allowed, answer, retired};
@@ -28,7 +29,8 @@ pub fn replies_as_the_book()
 
 /// The nonce that is read off the cache is the one that the entry retires.
 pub fn retires_as_the_book()
-    ensures { (roster : Roster) (names : Tables) (past : List Entry) (entry : Entry) (index : BookIndex)
+    ensures { (roster : Roster)
+        (names : Tables) (past : List Entry) (entry : Entry) (index : BookIndex)
         → IsLegalPast roster names (entry ∷ past) → StandsFor index roster names past
         → retired_in names entry.call entry.reply index ≡ retired names entry past }
 {}

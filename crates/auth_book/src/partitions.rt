@@ -1,10 +1,11 @@
-//! What an index keeps of each partition: its live spaces and their directories. One partition never
-//! puts a space of another out, so each has a cache and directories of its own.
+//! What an index keeps of each partition: its live spaces and their directories. One partition
+//! never puts a space of another out, so each has a cache and directories of its own.
 
 ghost use Rattle.std.specs.Prelude.{◌≡◌, [], IfOk, IfSome, IsTrue, OnErr, OnOk, option_copied};
 ghost use Rattle.spaces.specs.Sites.{numbered};
 ghost use Rattle.auth_cache.specs.Cached.{held_in};
-ghost use Rattle.auth_book.specs.Parts.{entries_at, new_part, notes_at, part_number, part_of, with_part};
+ghost use Rattle.auth_book.specs.Parts.{entries_at, new_part, notes_at, part_number, part_of};
+ghost use Rattle.auth_book.specs.Parts.{with_part};
 ghost use Rattle.auth_book.specs.Fits.{CacheFits, PathsFit};
 ghost use Rattle.auth_book.specs.Steps.{part_told, parts_told};
 

@@ -1,6 +1,7 @@
 //! Replies that are read off the index: nothing changes.
 
-ghost use Rattle.std.specs.Prelude.{◌≡◌, ◌<◌, ◌≤◌, ◌*◌, ◌&&◌, ℕ, IfSome, Some, is_some, length, not, option_copied, option_map, unwrap_or, IsTrue, false};
+ghost use Rattle.std.specs.Prelude.{◌≡◌, ◌<◌, ◌≤◌, ◌*◌, ◌&&◌, ℕ, IfSome, Some, is_some, length};
+ghost use Rattle.std.specs.Prelude.{not, option_copied, option_map, unwrap_or, IsTrue, false};
 ghost use Rattle.std.specs.List.{list_any};
 ghost use Rattle.spaces.specs.Sites.{numbered, same_origin};
 ghost use Rattle.auth_events.specs.Book as Book;

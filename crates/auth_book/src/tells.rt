@@ -1,6 +1,7 @@
 //! What an entry does to each part of the index. None takes memory.
 
-ghost use Rattle.std.specs.Prelude.{◌≡◌, ◌<◌, ◌≤◌, ◌+◌, ℕ, IsTrue, Some, is_some, length, option_map, unwrap_or, IfSome, true};
+ghost use Rattle.std.specs.Prelude.{◌≡◌, ◌<◌, ◌≤◌, ◌+◌, ℕ, IsTrue, Some, is_some, length};
+ghost use Rattle.std.specs.Prelude.{option_map, unwrap_or, IfSome, true};
 ghost use Rattle.spaces.specs.Sites.{numbered, same_target};
 ghost use Rattle.auth_events.specs.Past as Past;
 ghost use Rattle.auth_events.specs.Book as Book;
@@ -106,7 +107,8 @@ fn remove(cache: &mut AuthCache, gift: Gift)
 pub fn tell_cache(cache: &mut AuthCache, call: Call, reply: BookReply)
     requires bound { cache.old.bound ≡ 32 }
     requires fits { CacheFits call reply cache.old.entries }
-    ensures { cache.new ≡ record cache.old { entries = entries_after 32 call reply cache.old.entries } }
+    ensures { cache.new
+        ≡ record cache.old { entries = entries_after 32 call reply cache.old.entries } }
 {
     match reply {
         BookReply::Url { gift, .. } | BookReply::Given { gift, .. } => {

@@ -2,8 +2,10 @@
 //! the one to give up. Its bound is at most 32, so each call looks at no more entries than that,
 //! and it takes no memory but its own.
 
-ghost use Rattle.std.specs.Prelude.{◌≡◌, ◌≤◌, ◌<◌, [], IsTrue, IfSome, is_some, length, option_map, Some, None, find, map, ◌||◌, nat_lt};
-ghost use Rattle.auth_cache.specs.Cached.{evicted, held_in, is_of, put_in, removal, taken_out, touched, with_terms, without, retermed};
+ghost use Rattle.std.specs.Prelude.{◌≡◌, ◌≤◌, ◌<◌, [], IsTrue, IfSome, is_some, length, option_map};
+ghost use Rattle.std.specs.Prelude.{Some, None, find, map, ◌||◌, nat_lt};
+ghost use Rattle.auth_cache.specs.Cached.{evicted, held_in, is_of, put_in, removal, taken_out};
+ghost use Rattle.auth_cache.specs.Cached.{touched, with_terms, without, retermed};
 
 use arrayvec::ArrayVec;
 use auth_events::Gift;
@@ -120,8 +122,10 @@ impl AuthCache {
     /// Gives the space's entry other terms, and answers the old ones. It is no touch.
     pub fn set_terms(&mut self, space: u32, terms: u32) -> u32
         requires { IsTrue (is_some (held_in self.old.entries space)) }
-        ensures old { Some result ≡ option_map (λ held. held.terms) (held_in self.old.entries space) }
-        ensures after { self.new ≡ record self.old { entries = with_terms space terms self.old.entries } }
+        ensures old { Some result
+            ≡ option_map (λ held. held.terms) (held_in self.old.entries space) }
+        ensures after { self.new
+            ≡ record self.old { entries = with_terms space terms self.old.entries } }
     {
         let old = match find_space(self.entries.as_slice(), space) {
             Some(held) => held.terms,

@@ -2,7 +2,8 @@
 //! history. Each law is the contract of a function that does nothing, so the check proves it for
 //! all legal histories of any book.
 
-ghost use Rattle.std.specs.Prelude.{◌≡◌, ◌≤◌, ◌∷◌, [], length, ℕ, Bool, true, false, List, option_map, unwrap_or};
+ghost use Rattle.std.specs.Prelude.{◌≡◌, ◌≤◌, ◌∷◌, [], length, ℕ, Bool, true, false, List};
+ghost use Rattle.std.specs.Prelude.{option_map, unwrap_or};
 ghost use Rattle.spaces.specs.Sites.{numbered};
 ghost use Rattle.spaces.specs.declared.roster.Roster.{Roster};
 ghost use Rattle.auth_events.specs.declared.journal.Entry.{Entry};

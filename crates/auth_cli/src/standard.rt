@@ -1,6 +1,6 @@
-//! A source over any of std's readers, and a sink over any of std's writers. What they tell is the count
-//! of failures alone, since what the real world gives and takes is known to no clause; where a reader's
-//! or a writer's bytes are known, each call says what it did to them.
+//! A source over any of std's readers, and a sink over any of std's writers. What they tell is the
+//! count of failures alone, since what the real world gives and takes is known to no clause; where
+//! a reader's or a writer's bytes are known, each call says what it did to them.
 
 ghost use Rattle.std.specs.Prelude.{◌≡◌, ◌≢◌, ◌<◌, ◌≤◌, true, length};
 ghost use Rattle.link_trait.specs.Faults.{Rose};
@@ -43,7 +43,8 @@ impl<R: Read> Source for StdSource<R> {
 
     fn read(&mut self, buf: &mut [u8]) -> Got
         requires { 0 < length buf.old }
-        ensures gave { Gave (R.remaining self.old.inner) (R.remaining self.new.inner) result buf.new }
+        ensures gave { Gave
+            (R.remaining self.old.inner) (R.remaining self.new.inner) result buf.new }
         ensures count { IsGivenCount result (length buf.new) }
         ensures later { self.old.faults ≤ self.new.faults }
         ensures failed { result ≡ Got.Failed → Rose true self.old.faults self.new.faults }
@@ -97,7 +98,8 @@ impl<W: Write> Sink for StdSink<W> {
     ghost quiet = { λ it. ⊥ };
 
     fn write(&mut self, bytes: &[u8]) -> Took
-        ensures taken { Taken (W.contents self.old.inner) (W.contents self.new.inner) result bytes.now }
+        ensures taken { Taken
+            (W.contents self.old.inner) (W.contents self.new.inner) result bytes.now }
         ensures count { IsTakenCount result (length bytes.now) }
         ensures later { self.old.faults ≤ self.new.faults }
         ensures failed { result ≡ Took.Failed → Rose true self.old.faults self.new.faults }

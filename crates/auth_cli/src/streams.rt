@@ -1,5 +1,5 @@
-//! A whole input out of a source, and a whole text into a sink: both come and go in pieces, and both
-//! may fail at any piece.
+//! A whole input out of a source, and a whole text into a sink: both come and go in pieces, and
+//! both may fail at any piece.
 
 ghost use Rattle.std.specs.Prelude.{◌≡◌, ◌≤◌, ◌+◌, length, drop, IfOk, OnOk, OnErr, IsErrOf};
 ghost use Rattle.link_trait.specs.Faults.{Rose};
@@ -54,8 +54,10 @@ pub(crate) enum WriteStop {
 pub(crate) fn read_whole<S: Source>(alloc: Global, input: &mut S) -> Result<Bytes, ReadStop>
     ensures text { IfOk result (λ text. WasRead (S.left input.old) (S.left input.new) text) }
     ensures len { IfOk result (λ text. length text ≤ MOST_BYTES) }
-    ensures fault { IsErrOf result ReadStop.Fault → Rose S.sticks (S.faults input.old) (S.faults input.new) }
-    ensures large { IsErrOf result ReadStop.TooLarge → WasReadPast MOST_BYTES (S.left input.old) (S.left input.new) }
+    ensures fault { IsErrOf result ReadStop.Fault
+        → Rose S.sticks (S.faults input.old) (S.faults input.new) }
+    ensures large { IsErrOf result ReadStop.TooLarge
+        → WasReadPast MOST_BYTES (S.left input.old) (S.left input.new) }
     ensures later { S.faults input.old ≤ S.faults input.new }
 {
     let mut buf = zeros(alloc, ROOM)?;
@@ -82,8 +84,10 @@ fn behind(text: &[u8], at: usize) -> &[u8]
 /// Writes a whole text. A sink that fails holds the text's front.
 pub(crate) fn write_whole<K: Sink>(output: &mut K, text: &[u8]) -> Result<(), WriteStop>
     ensures all { OnOk result (WasWritten (K.held output.old) (K.held output.new) text.now) }
-    ensures part { OnErr result (WasWrittenInPart (K.held output.old) (K.held output.new) text.now) }
-    ensures fault { IsErrOf result WriteStop.Fault → Rose K.sticks (K.faults output.old) (K.faults output.new) }
+    ensures part { OnErr result
+        (WasWrittenInPart (K.held output.old) (K.held output.new) text.now) }
+    ensures fault { IsErrOf result WriteStop.Fault
+        → Rose K.sticks (K.faults output.old) (K.faults output.new) }
     ensures later { K.faults output.old ≤ K.faults output.new }
 {
     let mut at = 0usize;

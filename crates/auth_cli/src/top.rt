@@ -1,5 +1,5 @@
-//! The top calls: words and an input in, a text and a status out. What was proved of all crates below
-//! comes together in their clauses.
+//! The top calls: words and an input in, a text and a status out. What was proved of all crates
+//! below comes together in their clauses.
 
 ghost use Rattle.std.specs.Prelude.{◌≡◌, ◌⊎◌, ◌≤◌, ◌↔◌, length, Some, None, List, ℕ};
 ghost use Rattle.std.specs.Prelude.{IfOk, IfErr, IsErrOf};
@@ -93,12 +93,13 @@ fn serve<S: Source, K: Sink>(
 }
 
 /// Runs the command that the words are: `check` reads a session and writes how much it asks for,
-/// `alone` serves its requests in order by one caller over the recorded links, and writes the report.
+/// `alone` serves its requests in order by one caller over the recorded links, and writes the
+/// report.
 ///
 /// The seed is what client nonces are made of. It waits for nobody and always returns. The status
-/// says how it ended, and its first cause in this order: the words, a read fault, the size, the first
-/// line at fault, a write fault. Want of memory may come at any place behind the words. Nothing is
-/// written before the whole text is made.
+/// says how it ended, and its first cause in this order: the words, a read fault, the size, the
+/// first line at fault, a write fault. Want of memory may come at any place behind the words.
+/// Nothing is written before the whole text is made.
 pub fn authfetch_alone<S: Source, K: Sink>(
     alloc: Global,
     words: &[Word],
@@ -108,14 +109,14 @@ pub fn authfetch_alone<S: Source, K: Sink>(
 ) -> Status
     ensures usage { result ≡ Status.Usage ↔ (command words.now ≡ None) }
 
-    // The headline: what stands there afterwards is what stood there, followed by the command's text,
-    // which for `alone` is the report of a run of the session.
+    // The headline: what stands there afterwards is what stood there, followed by the command's
+    // text, which for `alone` is the report of a run of the session.
     ensures done { (asked : Command) → command words.now ≡ Some asked → result ≡ Status.Done
         → IsServed asked seed (S.left input.old) (S.left input.new)
         (K.held output.old) (K.held output.new) }
 
-    // In the journal that `alone` prints each request ends, every prompt has exactly one answer or loss,
-    // and who follows a prompt takes its end behind that, exactly once.
+    // In the journal that `alone` prints each request ends, every prompt has exactly one answer or
+    // loss, and who follows a prompt takes its end behind that, exactly once.
     ensures closed { command words.now ≡ Some Command.Alone → result ≡ Status.Done
         → WasClosed seed (K.held output.old) (K.held output.new) }
 
@@ -152,8 +153,8 @@ pub fn authfetch_alone<S: Source, K: Sink>(
     }
 }
 
-/// Runs the command that the words are. It hands them to `authfetch_alone`, whose clauses are its own,
-/// and gives the gears back as they came: no command uses gears so far.
+/// Runs the command that the words are. It hands them to `authfetch_alone`, whose clauses are its
+/// own, and gives the gears back as they came: no command uses gears so far.
 pub fn authfetch<R, S: Source, K: Sink, D: Dialer + Send, T: Tokens + Send>(
     _rt: &R,
     alloc: Global,

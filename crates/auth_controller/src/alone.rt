@@ -1,6 +1,7 @@
 //! One request of one caller, from its first call of the book to its outcome.
 
-ghost use Rattle.std.specs.Prelude.{◌≡◌, ◌≤◌, ◌*◌, ◌^◌, ℕ, IfOk, IsSome, OnErr, None, Some, [], false, length, reverse};
+ghost use Rattle.std.specs.Prelude.{◌≡◌, ◌≤◌, ◌*◌, ◌^◌, ℕ, IfOk, IsSome, OnErr, None, Some, []};
+ghost use Rattle.std.specs.Prelude.{false, length, reverse};
 ghost use Rattle.spaces.specs.Sites.{numbered};
 ghost use Rattle.spaces.specs.declared.roster.Request.{Request};
 ghost use Rattle.link_trait.specs.Links.{IsUndialed};
@@ -81,9 +82,9 @@ fn serve_on<B: Controller, D: Dialer, T: Tokens, P: Prompter>(
     }
 }
 
-/// Serves a request by one caller, number 1, with nobody beside it: calls the book, draws counts from
-/// the words, dials links, writes heads and reads replies, and asks the user, until the request is
-/// over. It takes the memory for its trace first: an error has changed nothing.
+/// Serves a request by one caller, number 1, with nobody beside it: calls the book, draws counts
+/// from the words, dials links, writes heads and reads replies, and asks the user, until the
+/// request is over. It takes the memory for its trace first: an error has changed nothing.
 pub fn serve_alone<B: Controller, D: Dialer, T: Tokens, P: Prompter>(
     alloc: Global,
     book: &mut B,

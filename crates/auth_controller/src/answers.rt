@@ -1,10 +1,13 @@
-//! What the book and the words tell a request's machine, need by need, for a request that one caller
-//! serves.
+//! What the book and the words tell a request's machine, need by need, for a request that one
+//! caller serves.
 
 ghost use Rattle.std.specs.Prelude.{◌≡◌, ◌≢◌, Some};
 ghost use Rattle.request_machine.specs.Needs.{need_at};
 ghost use Rattle.request_machine.specs.Rooms.{HasSetting};
-ghost use Rattle.auth_controller.specs.Answering.{HasServing, HasServingBy, IsGiven, IsGivenAs, IsServedOn, IsServedOnBy, identity_given, number_given, numbers_given, space_given, terms_given};
+ghost use Rattle.auth_controller.specs.Answering.{HasServing, HasServingBy, IsGiven, IsGivenAs};
+ghost use Rattle.auth_controller.specs.Answering.{IsServedOn, IsServedOnBy, identity_given};
+ghost use Rattle.auth_controller.specs.Answering.{number_given, numbers_given, space_given};
+ghost use Rattle.auth_controller.specs.Answering.{terms_given};
 
 use crate::calls::call;
 use auth_events::{Call, Controller, Gift, TermsRef};

@@ -1,5 +1,5 @@
-//! One request from its first call of the book to its outcome: how one caller drives a request's machine
-//! over a book, the words of its nonces, links and a prompter.
+//! One request from its first call of the book to its outcome: how one caller drives a request's
+//! machine over a book, the words of its nonces, links and a prompter.
 #![tactic(auto)]
 
 mod alone;

@@ -5,8 +5,8 @@ ghost use Rattle.std.specs.Prelude.{◌≡◌, ◌≤◌, ◌+◌, ◌++◌, len
 use auth_text::{Bytes, NoMemory};
 use std::alloc::{AllocError, Global};
 
-/// So many zero bytes. A loop that reads calls this, since the length of a list made beside the loop
-/// is unfolded in each of its goals.
+/// So many zero bytes. A loop that reads calls this, since the length of a list made beside the
+/// loop is unfolded in each of its goals.
 pub fn zeros(alloc: Global, len: usize) -> Result<Vec<u8>, AllocError>
     ensures { IfOk result (λ buf. vec_len buf ≡ len) }
 {

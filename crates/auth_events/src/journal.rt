@@ -1,5 +1,5 @@
-//! The calls on a book of credentials, its replies, and the journal that keeps both: what happened is
-//! known from its entries alone.
+//! The calls on a book of credentials, its replies, and the journal that keeps both: what happened
+//! is known from its entries alone.
 
 ghost use Rattle.std.specs.Prelude.{◌≡◌, ◌≤◌, ◌++◌, ◌∷◌, [], IfOk};
 
@@ -15,7 +15,8 @@ pub struct Gift {
     pub ordinal: u32,
 }
 
-/// What one draw gives: the count that goes out with the nonce, and the nonce's epoch at that moment.
+/// What one draw gives: the count that goes out with the nonce, and the nonce's epoch at that
+/// moment.
 #[derive(Clone, Copy, Debug, PartialEq, Eq)]
 pub struct Drawn {
     pub count: u32,
@@ -75,7 +76,8 @@ pub struct Entry {
     pub reply: BookReply,
 }
 
-/// Entries, with room for 64 of each request. Seen as the number of requests and the list of the entries.
+/// Entries, with room for 64 of each request. Seen as the number of requests and the list of the
+/// entries.
 #[derive(Drop)]
 pub struct Journal {
     requests: u32,
@@ -90,7 +92,8 @@ impl Model for Journal {
 
     ghost view = { λ j. record { requests = j.requests; entries = j.entries.items } };
 
-    ghost invariant = { λ j. IsWithinRoom j.requests j.entries.items × (64 * j.requests ≤ vec_capacity j.entries) };
+    ghost invariant = { λ j. IsWithinRoom j.requests j.entries.items
+        × (64 * j.requests ≤ vec_capacity j.entries) };
 }
 
 impl Journal {

@@ -29,8 +29,10 @@ pub struct Ledger {
 
 /// The numbers of the space's terms and of their nonce, where they have them.
 fn numbers_of(names: &Names, space: u32, terms: &Terms) -> Option<TermsRef>
-    ensures number { option_map (λ numbers. numbers.terms) result ≡ terms_number names.now space terms.now }
-    ensures name { IfSome result (λ numbers. numbered names.now.terms numbers.terms ≡ Some (record { space = space; terms = terms.now; nonce = numbers.nonce })) }
+    ensures number { option_map (λ numbers. numbers.terms) result
+        ≡ terms_number names.now space terms.now }
+    ensures name { IfSome result (λ numbers. numbered names.now.terms numbers.terms
+        ≡ Some (record { space = space; terms = terms.now; nonce = numbers.nonce })) }
 {
     let number = names.terms_number(space, terms)?;
     match names.terms(number) {
@@ -43,14 +45,18 @@ fn numbers_of(names: &Names, space: u32, terms: &Terms) -> Option<TermsRef>
 }
 
 impl Ledger {
-    ghost use Rattle.std.specs.Prelude.{◌≡◌, ◌≤◌, ◌++◌, ◌∷◌, [], ◌+◌, ◌<◌, ◌*◌, length, reverse, IsTrue, IfOk, OnOk, OnErr, Some, None, is_some, option_copied, option_map, false};
+    ghost use Rattle.std.specs.Prelude.{◌≡◌, ◌≤◌, ◌++◌, ◌∷◌, [], ◌+◌, ◌<◌, ◌*◌, length, reverse};
+    ghost use Rattle.std.specs.Prelude.{IsTrue, IfOk, OnOk, OnErr, Some, None, is_some};
+    ghost use Rattle.std.specs.Prelude.{option_copied, option_map, false};
     ghost use Rattle.spaces.specs.Sites.{numbered};
-    ghost use Rattle.auth_events.specs.Tables.{no_names, is_home, space_number, terms_number, with_new_space, with_new_terms, with_text};
+    ghost use Rattle.auth_events.specs.Tables.{no_names, is_home, space_number, terms_number};
+    ghost use Rattle.auth_events.specs.Tables.{with_new_space, with_new_terms, with_text};
     ghost use Rattle.auth_events.specs.Pages.{IsWithinRoom};
     ghost use Rattle.auth_events.specs.Book.{allowed, answer};
     ghost use Rattle.auth_events.specs.Identities.{giving, identity};
     ghost use Rattle.auth_events.specs.Ledgers.{told_of};
-    ghost use Rattle.auth_events.specs.Told.{is_pending, told_space, told_terms, MayNameSpace, MayNameTerms};
+    ghost use Rattle.auth_events.specs.Told.{is_pending, told_space, told_terms, MayNameSpace};
+    ghost use Rattle.auth_events.specs.Told.{MayNameTerms};
     ghost use Rattle.auth_events.specs.declared.told.Told.TheVariants.{TextNamed};
 
     /// An empty journal with its room, and no names.
@@ -113,8 +119,10 @@ impl Ledger {
 
     /// Adds the entry of a call. It takes no memory.
     pub fn append(&mut self, entry: Entry)
-        requires may { IsTrue (allowed self.old.roster self.old.names (reverse self.old.journal.entries) entry.caller entry.request entry.call) }
-        requires reply { entry.reply ≡ answer self.old.roster self.old.names (reverse self.old.journal.entries) entry.request entry.call }
+        requires may { IsTrue (allowed self.old.roster self.old.names
+            (reverse self.old.journal.entries) entry.caller entry.request entry.call) }
+        requires reply { entry.reply ≡ answer self.old.roster self.old.names
+            (reverse self.old.journal.entries) entry.request entry.call }
         requires done { is_pending entry.reply ≡ false }
         ensures entries { self.new.journal.entries ≡ self.old.journal.entries ++ entry ∷ [] }
         ensures roster { self.new.roster ≡ self.old.roster }
@@ -127,8 +135,12 @@ impl Ledger {
     /// The number of the space, which is named where it has none. An `Err` changes nothing.
     pub fn space_no(&mut self, caller: u32, space: &Space) -> Result<u32, NoMemory>
         requires { MayNameSpace self.old.roster self.old.names space.now }
-        ensures number { IfOk result (λ number. numbered self.new.names.spaces number ≡ Some space.now) }
-        ensures told { OnOk result (told_of self.new.names self.new.made.items self.new.journal.entries ≡ told_space caller self.old.names (told_of self.old.names self.old.made.items self.old.journal.entries) space.now) }
+        ensures number { IfOk result (λ number. numbered self.new.names.spaces number
+            ≡ Some space.now) }
+        ensures told { OnOk result
+            (told_of self.new.names self.new.made.items self.new.journal.entries
+            ≡ told_space caller self.old.names
+            (told_of self.old.names self.old.made.items self.old.journal.entries) space.now) }
         ensures entries { self.new.journal ≡ self.old.journal }
         ensures roster { self.new.roster ≡ self.old.roster }
         ensures named { OnOk result (self.new.names ≡ with_new_space self.old.names space.now) }
@@ -146,8 +158,12 @@ impl Ledger {
     pub fn name_space(&mut self, caller: u32, space: &Space) -> Result<u32, NoMemory>
         requires may { MayNameSpace self.old.roster self.old.names space.now }
         requires new { space_number self.old.names space.now ≡ None }
-        ensures number { IfOk result (λ number. numbered self.new.names.spaces number ≡ Some space.now) }
-        ensures told { OnOk result (told_of self.new.names self.new.made.items self.new.journal.entries ≡ told_space caller self.old.names (told_of self.old.names self.old.made.items self.old.journal.entries) space.now) }
+        ensures number { IfOk result (λ number. numbered self.new.names.spaces number
+            ≡ Some space.now) }
+        ensures told { OnOk result
+            (told_of self.new.names self.new.made.items self.new.journal.entries
+            ≡ told_space caller self.old.names
+            (told_of self.old.names self.old.made.items self.old.journal.entries) space.now) }
         ensures entries { self.new.journal ≡ self.old.journal }
         ensures roster { self.new.roster ≡ self.old.roster }
         ensures named { OnOk result (self.new.names ≡ with_new_space self.old.names space.now) }
@@ -168,16 +184,22 @@ impl Ledger {
         Ok(number)
     }
 
-    /// The numbers of the space's terms and of their nonce; the terms are named where they have none.
-    /// An `Err` changes nothing.
+    /// The numbers of the space's terms and of their nonce; the terms are named where they have
+    /// none. An `Err` changes nothing.
     pub fn terms_no(&mut self, caller: u32, space: u32, terms: &Terms) -> Result<TermsRef, NoMemory>
         requires home { IsTrue (is_home self.old.names space terms.now) }
         requires few { MayNameTerms self.old.roster self.old.names space terms.now }
-        ensures number { IfOk result (λ numbers. numbered self.new.names.terms numbers.terms ≡ Some (record { space = space; terms = terms.now; nonce = numbers.nonce })) }
-        ensures told { OnOk result (told_of self.new.names self.new.made.items self.new.journal.entries ≡ told_terms caller self.old.names (told_of self.old.names self.old.made.items self.old.journal.entries) space terms.now) }
+        ensures number { IfOk result (λ numbers. numbered self.new.names.terms numbers.terms
+            ≡ Some (record { space = space; terms = terms.now; nonce = numbers.nonce })) }
+        ensures told { OnOk result
+            (told_of self.new.names self.new.made.items self.new.journal.entries
+            ≡ told_terms caller self.old.names
+            (told_of self.old.names self.old.made.items self.old.journal.entries)
+            space terms.now) }
         ensures entries { self.new.journal ≡ self.old.journal }
         ensures roster { self.new.roster ≡ self.old.roster }
-        ensures named { OnOk result (self.new.names ≡ with_new_terms self.old.names space terms.now) }
+        ensures named { OnOk result (self.new.names
+            ≡ with_new_terms self.old.names space terms.now) }
         ensures names { OnErr result (self.new.names ≡ self.old.names) }
         ensures made { OnErr result (self.new.made.items ≡ self.old.made.items) }
     {
@@ -203,11 +225,17 @@ impl Ledger {
         requires may { MayNameTerms self.old.roster self.old.names space terms.now }
         requires new { terms_number self.old.names space terms.now ≡ None }
         requires nonce { nonce ≡ nonce_for self.old.names space terms.now }
-        ensures number { IfOk result (λ numbers. numbered self.new.names.terms numbers.terms ≡ Some (record { space = space; terms = terms.now; nonce = numbers.nonce })) }
-        ensures told { OnOk result (told_of self.new.names self.new.made.items self.new.journal.entries ≡ told_terms caller self.old.names (told_of self.old.names self.old.made.items self.old.journal.entries) space terms.now) }
+        ensures number { IfOk result (λ numbers. numbered self.new.names.terms numbers.terms
+            ≡ Some (record { space = space; terms = terms.now; nonce = numbers.nonce })) }
+        ensures told { OnOk result
+            (told_of self.new.names self.new.made.items self.new.journal.entries
+            ≡ told_terms caller self.old.names
+            (told_of self.old.names self.old.made.items self.old.journal.entries)
+            space terms.now) }
         ensures entries { self.new.journal ≡ self.old.journal }
         ensures roster { self.new.roster ≡ self.old.roster }
-        ensures named { OnOk result (self.new.names ≡ with_new_terms self.old.names space terms.now) }
+        ensures named { OnOk result (self.new.names
+            ≡ with_new_terms self.old.names space terms.now) }
         ensures names { OnErr result (self.new.names ≡ self.old.names) }
         ensures made { OnErr result (self.new.made.items ≡ self.old.made.items) }
     {
@@ -236,7 +264,10 @@ impl Ledger {
     pub fn text_no(&mut self, caller: u32, identity: &Identity) -> Result<u32, NoMemory>
         requires { length self.old.names.texts < 64 * length self.old.roster.requests }
         ensures number { IfOk result (λ number. number ≡ length self.old.names.texts + 1) }
-        ensures told { OnOk result (told_of self.new.names self.new.made.items self.new.journal.entries ≡ told_of self.old.names self.old.made.items self.old.journal.entries ++ TextNamed caller identity.now ∷ []) }
+        ensures told { OnOk result
+            (told_of self.new.names self.new.made.items self.new.journal.entries
+            ≡ told_of self.old.names self.old.made.items self.old.journal.entries
+            ++ TextNamed caller identity.now ∷ []) }
         ensures entries { self.new.journal ≡ self.old.journal }
         ensures roster { self.new.roster ≡ self.old.roster }
         ensures named { OnOk result (self.new.names ≡ with_text self.old.names identity.now) }
@@ -271,7 +302,9 @@ impl Ledger {
     /// The terms of that number, and the number of their nonce.
     pub fn terms_of(&self, terms: u32) -> Result<(Terms, u32), NoMemory>
         requires { IsTrue (is_some (numbered self.now.names.terms terms)) }
-        ensures { IfOk result (λ found. option_map (λ name. (name.terms, name.nonce)) (numbered self.now.names.terms terms) ≡ Some found) }
+        ensures { IfOk result (λ found.
+            option_map (λ name. (name.terms, name.nonce)) (numbered self.now.names.terms terms)
+            ≡ Some found) }
     {
         match self.names.terms(terms) {
             Some(found) => Ok((copy_terms(&found.terms)?, found.nonce)),
@@ -282,7 +315,9 @@ impl Ledger {
     /// The identity that the gift stands for.
     pub fn identity_of(&self, gift: Gift) -> Result<Identity, NoMemory>
         requires { IsTrue (is_some (giving (reverse self.now.journal.entries) gift)) }
-        ensures { IfOk result (λ found. identity self.now.roster self.now.names (reverse self.now.journal.entries) gift ≡ Some found) }
+        ensures { IfOk result (λ found.
+            identity self.now.roster self.now.names (reverse self.now.journal.entries) gift
+            ≡ Some found) }
     {
         match self.identity(gift) {
             Some(found) => copy_identity(found),
@@ -291,7 +326,8 @@ impl Ledger {
     }
 
     fn identity(&self, gift: Gift) -> Option<&Identity>
-        ensures { option_copied result ≡ identity self.now.roster self.now.names (reverse self.now.journal.entries) gift }
+        ensures { option_copied result
+            ≡ identity self.now.roster self.now.names (reverse self.now.journal.entries) gift }
     {
         match giving(self.journal.entries(), gift) {
             Some(entry) => identity_given(&self.roster, &self.names, entry),

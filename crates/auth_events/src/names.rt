@@ -1,11 +1,15 @@
-//! What the numbers in a journal name: spaces, Digest terms, nonces and identities. Two realms of one
-//! site share the nonce of one text, since a server counts the uses of a nonce.
+//! What the numbers in a journal name: spaces, Digest terms, nonces and identities. Two realms of
+//! one site share the nonce of one text, since a server counts the uses of a nonce.
 
-ghost use Rattle.std.specs.Prelude.{◌≡◌, ◌≤◌, ◌<◌, ◌+◌, ◌++◌, ◌∷◌, [], length, OnOk, OnErr, IfErr, IfOk, IfSome, IsTrue, option_copied, option_map, suc, None, Some};
+ghost use Rattle.std.specs.Prelude.{◌≡◌, ◌≤◌, ◌<◌, ◌+◌, ◌++◌, ◌∷◌, [], length, OnOk, OnErr, IfErr};
+ghost use Rattle.std.specs.Prelude.{IfOk, IfSome, IsTrue, option_copied, option_map, suc, None};
+ghost use Rattle.std.specs.Prelude.{Some};
 ghost use Rattle.std.specs.List.{position_from};
 ghost use Rattle.spaces.specs.ProtectionSpaces.{has_realm};
 ghost use Rattle.spaces.specs.Sites.{numbered, same_space};
-ghost use Rattle.auth_events.specs.Tables.{no_names, is_that_terms, is_that_nonce, space_number, terms_number, nonce_number, nonce_for, nonce_named, is_home, with_space, with_terms, with_text};
+ghost use Rattle.auth_events.specs.Tables.{no_names, is_that_terms, is_that_nonce, space_number};
+ghost use Rattle.auth_events.specs.Tables.{terms_number, nonce_number, nonce_for, nonce_named};
+ghost use Rattle.auth_events.specs.Tables.{is_home, with_space, with_terms, with_text};
 
 use auth_text::{Bytes, Identity, NoMemory};
 use spaces::{Site, Space, Terms, same_site, same_space, same_terms};
@@ -44,10 +48,25 @@ impl Model for Names {
 
     ghost Value = { Tables };
 
-    ghost view = { λ n. record { spaces = n.spaces.items; terms = n.terms.items; nonces = n.nonces.items; texts = n.texts.items } };
+    ghost view = { λ n. record {
+      spaces = n.spaces.items;
+      terms = n.terms.items;
+      nonces = n.nonces.items;
+      texts = n.texts.items;
+    } };
 
-    ghost invariant = { λ n. AreNames (record { spaces = n.spaces.items; terms = n.terms.items; nonces = n.nonces.items; texts = n.texts.items })
-        × AreFew 2048 (record { spaces = n.spaces.items; terms = n.terms.items; nonces = n.nonces.items; texts = n.texts.items }) };
+    ghost invariant = { λ n. AreNames (record {
+      spaces = n.spaces.items;
+      terms = n.terms.items;
+      nonces = n.nonces.items;
+      texts = n.texts.items;
+    })
+        × AreFew 2048 (record {
+          spaces = n.spaces.items;
+          terms = n.terms.items;
+          nonces = n.nonces.items;
+          texts = n.texts.items;
+        }) };
 }
 
 fn position_of_space(spaces: &[Space], space: &Space) -> Option<usize>
@@ -270,8 +289,8 @@ impl Names {
         }
     }
 
-    /// Names terms, and their nonce where its number is new. Where there is no memory, they are handed
-    /// back and nothing changes.
+    /// Names terms, and their nonce where its number is new. Where there is no memory, they are
+    /// handed back and nothing changes.
     pub fn push_terms(&mut self, name: TermsName) -> Result<(), AllocFailed<TermsName>>
         requires few { length self.old.terms < 131072 }
         requires few_nonces { name.nonce ≤ 32768 }

@@ -1,5 +1,5 @@
-//! What a book tells of itself: one list of its entries and its new names, each with the caller that
-//! made it. A prefix of it is all that a caller of a shared book has seen.
+//! What a book tells of itself: one list of its entries and its new names, each with the caller
+//! that made it. A prefix of it is all that a caller of a shared book has seen.
 
 use crate::journal::Entry;
 use crate::names::TermsName;
@@ -23,7 +23,8 @@ pub enum NameKind {
     Text,
 }
 
-/// A number that was given out, by the caller that asked for it, and how many entries stood before it.
+/// A number that was given out, by the caller that asked for it, and how many entries stood before
+/// it.
 #[derive(Clone, Copy, Debug, PartialEq, Eq)]
 pub struct NewName {
     pub kind: NameKind,

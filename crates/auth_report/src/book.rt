@@ -29,7 +29,8 @@ impl Model for Book {
 
     ghost view = { λ b. b.journal };
 
-    ghost invariant = { λ b. (b.journal.requests ≡ b.requests) × (b.own.items ≡ all_own b.journal.entries b.requests 1) };
+    ghost invariant = { λ b. (b.journal.requests ≡ b.requests)
+        × (b.own.items ≡ all_own b.journal.entries b.requests 1) };
 }
 
 #[tactic(auto, using(crate::proofs::Owning::none_more))]
@@ -55,7 +56,8 @@ fn push_own(
     requires own { own.old.items ≡ all_own journal.now.entries requests 1 }
     requires first { 1 ≤ entry.request }
     requires last { entry.request ≤ requests }
-    ensures ok { OnOk result (own.new.items ≡ all_own (journal.now.entries ++ entry ∷ []) requests 1) }
+    ensures ok { OnOk result (own.new.items
+        ≡ all_own (journal.now.entries ++ entry ∷ []) requests 1) }
     ensures err { OnErr result (own.new.items ≡ own.old.items) }
 {
     own[entry.request as usize - 1].push(entry)?;
@@ -89,7 +91,8 @@ impl Book {
     fn push(&mut self, entry: Entry) -> Result<(), NoMemory>
         requires room { IsTrue (has_room self.old.requests self.old.entries entry) }
         requires fit { IsTrue (fits entry.call entry.reply) }
-        ensures { OnOk result (self.new ≡ record self.old { entries = self.old.entries ++ entry ∷ [] }) }
+        ensures { OnOk result (self.new
+            ≡ record self.old { entries = self.old.entries ++ entry ∷ [] }) }
     {
         push_own(&mut self.own, &self.journal, self.requests, entry)?;
         self.journal.push(entry);
@@ -116,7 +119,8 @@ impl Book {
 /// The journal that the text begins with, and what stands behind its lines.
 pub fn read_journal(alloc: Global, requests: u32, text: &[u8]) -> Result<(Book, &[u8]), NoMemory>
     requires { requests ≤ 2048 }
-    ensures read { IfOk result (λ got. journal_front requests (lines text.now) ≡ (got.0.entries, lines got.1.now)) }
+    ensures read { IfOk result (λ got. journal_front requests (lines text.now)
+        ≡ (got.0.entries, lines got.1.now)) }
     ensures requests { IfOk result (λ got. got.0.requests ≡ requests) }
 {
     let mut book = Book::new(alloc, requests)?;

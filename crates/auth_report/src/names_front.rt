@@ -4,7 +4,8 @@ ghost use Rattle.std.specs.Prelude.{◌≡◌, ◌≤◌, [], length, IfOk, OnOk
 ghost use Rattle.report_reading.specs.Cuts.{lines};
 ghost use Rattle.auth_events.specs.Tables.{is_home, no_names};
 ghost use Rattle.auth_report.specs.Sections.{taken};
-ghost use Rattle.auth_report.specs.Steps.{is_new_space, is_new_terms, space_step, terms_step, text_step};
+ghost use Rattle.auth_report.specs.Steps.{is_new_space, is_new_terms, space_step, terms_step};
+ghost use Rattle.auth_report.specs.Steps.{text_step};
 ghost use Rattle.auth_report.specs.Reading.{names_front};
 
 use auth_events::{Names, TermsName};
@@ -27,7 +28,8 @@ fn read_spaces<'a>(
     text: &'a [u8],
 ) -> Result<&'a [u8], NoMemory>
     requires { requests ≤ 2048 }
-    ensures { IfOk result (λ left. taken (space_step requests) names.old (lines text.now) ≡ (names.new, lines left.now)) }
+    ensures { IfOk result (λ left. taken (space_step requests) names.old (lines text.now)
+        ≡ (names.new, lines left.now)) }
 {
     let mut rest = text;
     'lines: loop {
@@ -75,7 +77,8 @@ fn read_terms<'a>(
     text: &'a [u8],
 ) -> Result<&'a [u8], NoMemory>
     requires { requests ≤ 2048 }
-    ensures { IfOk result (λ left. taken (terms_step requests) names.old (lines text.now) ≡ (names.new, lines left.now)) }
+    ensures { IfOk result (λ left. taken (terms_step requests) names.old (lines text.now)
+        ≡ (names.new, lines left.now)) }
 {
     let mut rest = text;
     'lines: loop {
@@ -100,7 +103,8 @@ fn read_texts<'a>(
     text: &'a [u8],
 ) -> Result<&'a [u8], NoMemory>
     requires { requests ≤ 2048 }
-    ensures { IfOk result (λ left. taken (text_step requests) names.old (lines text.now) ≡ (names.new, lines left.now)) }
+    ensures { IfOk result (λ left. taken (text_step requests) names.old (lines text.now)
+        ≡ (names.new, lines left.now)) }
 {
     let mut rest = text;
     'lines: loop {
@@ -121,7 +125,8 @@ fn read_texts<'a>(
 /// The names that the text begins with, and what stands behind their lines.
 pub fn read_names(alloc: Global, requests: u32, text: &[u8]) -> Result<(Names, &[u8]), NoMemory>
     requires { requests ≤ 2048 }
-    ensures { IfOk result (λ got. names_front requests (lines text.now) ≡ (got.0, lines got.1.now)) }
+    ensures { IfOk result (λ got. names_front requests (lines text.now)
+        ≡ (got.0, lines got.1.now)) }
 {
     let mut names = Names::new(alloc);
     let rest = read_spaces(alloc, &mut names, requests, text)?;

@@ -3,7 +3,8 @@
 ghost use Rattle.std.specs.Prelude.{◌≡◌, ◌≤◌, ◌+◌, ◌-◌, ◌^◌, length, IfOk};
 ghost use Rattle.report_reading.specs.Cuts.{lines};
 ghost use Rattle.auth_report.specs.Report as written;
-ghost use Rattle.auth_report.specs.Reading.{IsReport, IsWhole, ended, end_line, last_line, body_front, from_seed, whole, report};
+ghost use Rattle.auth_report.specs.Reading.{IsReport, IsWhole, ended, end_line, last_line};
+ghost use Rattle.auth_report.specs.Reading.{body_front, from_seed, whole, report};
 
 use crate::book::read_journal;
 use crate::names_front::read_names;
@@ -116,9 +117,9 @@ fn first_left(text: &[u8], left: &[u8]) -> u32
     (lines_in(text) + 1).saturating_sub(lines_in(left)) as u32
 }
 
-/// Reads a report: the run whose text it is, or the number, from 1, of the first line that can't follow
-/// those before it. Where no line is at fault and the text ends before its `end` line, that is the
-/// number of its lines plus 1. It doesn't judge whether the run is legal.
+/// Reads a report: the run whose text it is, or the number, from 1, of the first line that can't
+/// follow those before it. Where no line is at fault and the text ends before its `end` line, that
+/// is the number of its lines plus 1. It doesn't judge whether the run is legal.
 pub fn read_report(alloc: Global, text: &[u8]) -> Result<Run, ReportFault>
     requires { length (lines text.now) ≤ 2 ^ 31 + 1 }
     ensures read { IsReport (report text.now) result }

@@ -26,8 +26,8 @@ fn push_names(alloc: Global, out: &mut Bytes, run: &Run) -> Result<(), NoMemory>
     push_text_lines(alloc, out, run.names().texts())
 }
 
-/// The report of a run: its seed, its roster, its names, its journal and its traces, a line for each
-/// thing, from `authreport 1` to `end`.
+/// The report of a run: its seed, its roster, its names, its journal and its traces, a line for
+/// each thing, from `authreport 1` to `end`.
 pub fn text_of(alloc: Global, run: &Run) -> Result<Bytes, NoMemory>
     ensures { IfOk result (λ text. text ≡ spec.text run.now) }
 {

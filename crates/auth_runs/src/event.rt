@@ -19,7 +19,8 @@ pub enum Why {
     BoundLost,
 }
 
-/// How a request ends. A count is that of the faults of who failed; a code is that of the last reply.
+/// How a request ends. A count is that of the faults of who failed; a code is that of the last
+/// reply.
 #[derive(Clone, Copy, Debug, PartialEq, Eq)]
 pub enum Outcome {
     /// The last reply is no challenge.

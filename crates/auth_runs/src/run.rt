@@ -23,7 +23,13 @@ impl Model for Run {
 
     ghost Value = { Run };
 
-    ghost view = { λ it. record { seed = it.seed; roster = it.roster; names = it.names; journal = it.journal.entries; traces = it.traces } };
+    ghost view = { λ it. record {
+      seed = it.seed;
+      roster = it.roster;
+      names = it.names;
+      journal = it.journal.entries;
+      traces = it.traces;
+    } };
 
     ghost invariant = { λ it. AreWithinLimits it.roster.requests it.traces };
 }
@@ -38,7 +44,13 @@ impl Run {
         traces: Traces,
     ) -> Run
         requires { AreWithinLimits roster.requests traces }
-        ensures { result ≡ record { seed = seed; roster = roster; names = names; journal = journal.entries; traces = traces } }
+        ensures { result ≡ record {
+          seed = seed;
+          roster = roster;
+          names = names;
+          journal = journal.entries;
+          traces = traces;
+        } }
     {
         Run {
             seed,

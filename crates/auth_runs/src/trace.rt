@@ -7,7 +7,8 @@ use crate::event::{Event, Events};
 use auth_text::Items;
 use std::marker::Model;
 
-/// All events of one request, in order. Seen as their list, whose last one, and no other, is `Ended`.
+/// All events of one request, in order. Seen as their list, whose last one, and no other, is
+/// `Ended`.
 #[derive(Debug, Drop)]
 pub struct Trace {
     events: Events,

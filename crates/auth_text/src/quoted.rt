@@ -83,7 +83,8 @@ fn push_parts(out: &mut Bytes, value: &[u8]) -> Result<(), NoMemory>
 /// The law of the two: the quoted string of a value reads as that value, whatever follows it. The
 /// body is empty, since the contract is all that there is to it.
 pub fn quoted_reads_back()
-    ensures { (value more : List ℕ) → quoted (quoted_text value ++ more) ≡ Ok (value, length (quoted_text value)) }
+    ensures { (value more : List ℕ)
+        → quoted (quoted_text value ++ more) ≡ Ok (value, length (quoted_text value)) }
 {}
 
 #[cfg(test)]

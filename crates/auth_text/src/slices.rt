@@ -1,5 +1,5 @@
-//! Parts of byte slices as functions of their own: a reader that calls them owes what is left of its
-//! text as a list, and no facts on indices.
+//! Parts of byte slices as functions of their own: a reader that calls them owes what is left of
+//! its text as a list, and no facts on indices.
 
 ghost use Rattle.std.specs.Prelude.{◌≡◌, ◌≤◌, length, take, drop};
 ghost use Rattle.std.specs.List.{list_all};

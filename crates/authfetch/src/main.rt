@@ -1,4 +1,5 @@
-//! The program `authfetch`: its words, standard input and standard output are handed to the top call.
+//! The program `authfetch`: its words, standard input and standard output are handed to the top
+//! call.
 #![tactic(auto)]
 
 mod told;
@@ -33,7 +34,8 @@ fn is_word(words: &[Word], expected: &[u8]) -> bool {
     }
 }
 
-/// Writes a text of the program's own. A write that fails ends the program as one of the report would.
+/// Writes a text of the program's own. A write that fails ends the program as one of the report
+/// would.
 fn print(rt: &HostRuntime, text: &str) -> ExitCode {
     match println!(rt; "{text}") {
         Ok(()) => ExitCode::SUCCESS,

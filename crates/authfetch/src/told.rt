@@ -22,7 +22,8 @@ there yet.
 Exit status: 0 done, 2 usage, 3 bad line, 4 read fault, 5 write fault, 6 no memory,
 7 too large, 8 too few gears. Each but 0 has its line on standard error.";
 
-/// The answer to `--version`. The sum is the last word of the line that the kit's `rt version` prints.
+/// The answer to `--version`. The sum is the last word of the line that the kit's `rt version`
+/// prints.
 pub(crate) const VERSION: &str = "authfetch 0.1.0, proved with the kit's logic dac8208d650f15bf";
 
 /// The exit status.

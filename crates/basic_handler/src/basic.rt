@@ -76,7 +76,8 @@ fn colon_place(login: &[u8]) -> Option<usize>
 fn identity_around(alloc: Global, login: &[u8], colon: usize) -> Result<Identity, BasicFault>
     requires is_first { position_from is_colon 0 login.now ≡ Some colon }
     requires within { colon < length login.now }
-    ensures { GivesBy BasicFault.NoMemory (λ it. it) result (parts_at login.now colon (position_from is_control 0 login.now)) }
+    ensures { GivesBy BasicFault.NoMemory
+        (λ it. it) result (parts_at login.now colon (position_from is_control 0 login.now)) }
 {
     match Identity::new(alloc, front_of(login, colon), rest_of(login, colon + 1)) {
         Ok(identity) => Ok(identity),

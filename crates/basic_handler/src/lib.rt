@@ -1,5 +1,5 @@
-//! Credentials of the Basic scheme (RFC 7617), both ways. They are sent as the bytes given, whatever
-//! `charset` a challenge names.
+//! Credentials of the Basic scheme (RFC 7617), both ways. They are sent as the bytes given,
+//! whatever `charset` a challenge names.
 #![tactic(auto)]
 
 mod basic;

@@ -35,8 +35,8 @@ fn reply<B: Controller>(
 ) -> Option<BookReply>
     requires { B.roster book.old ≡ roster.now }
     ensures roster { B.roster book.new ≡ roster.now }
-    ensures allowed { IsSome result
-        ↔ IsTrue (allowed roster.now (B.names book.old) (past (B.told book.old)) request request call) }
+    ensures allowed { IsSome result ↔ IsTrue
+        (allowed roster.now (B.names book.old) (past (B.told book.old)) request request call) }
 {
     let names = book.names();
     let entries = book.journal().entries();
@@ -176,8 +176,8 @@ fn begin<B: Controller>(book: &mut B, roster: &Roster)
 fn asks<B: Controller>(book: &mut B, roster: &Roster, request: u32) -> bool
     requires { B.roster book.old ≡ roster.now }
     ensures roster { B.roster book.new ≡ roster.now }
-    ensures allowed { result
-        ≡ allowed roster.now (B.names book.old) (past (B.told book.old)) request request (Preempt Server) }
+    ensures allowed { result ≡ allowed roster.now
+        (B.names book.old) (past (B.told book.old)) request request (Preempt Server) }
 {
     let target = Target::Server;
     reply(book, roster, request, Call::Preempt { target }).is_some()

@@ -1,6 +1,6 @@
-//! A day of requests on a book that scans its journal. The one word says how many of the last hundred
-//! requests ask what is ready for them, all others being served before. Nothing is printed, so the time
-//! of the whole program is that of the calls.
+//! A day of requests on a book that scans its journal. The one word says how many of the last
+//! hundred requests ask what is ready for them, all others being served before. Nothing is printed,
+//! so the time of the whole program is that of the calls.
 #![tactic(auto)]
 
 mod day;

@@ -1,5 +1,5 @@
-//! The names that the calls of a day speak of: five spaces of each partition, a nonce for each visit of
-//! a Digest host, and one text. All are made before the first call.
+//! The names that the calls of a day speak of: five spaces of each partition, a nonce for each
+//! visit of a Digest host, and one text. All are made before the first call.
 
 ghost use Rattle.std.specs.Prelude.{◌≡◌, ◌<◌, ◌*◌, length, IsTrue};
 ghost use Rattle.auth_events.specs.Tables.{is_home};
@@ -30,10 +30,14 @@ pub fn terms_number(request: u32) -> u32 {
 /// Whether the book may name one more of each kind.
 fn has_room<B: Controller>(book: &B, roster: &Roster) -> bool
     requires { B.roster book.now ≡ roster.now }
-    ensures spaces { IsTrue result → length (B.names book.now).spaces < 64 * length (B.roster book.now).requests }
-    ensures terms { IsTrue result → length (B.names book.now).terms < 64 * length (B.roster book.now).requests }
-    ensures nonces { IsTrue result → length (B.names book.now).nonces < 16 * length (B.roster book.now).requests }
-    ensures texts { IsTrue result → length (B.names book.now).texts < 64 * length (B.roster book.now).requests }
+    ensures spaces { IsTrue result
+        → length (B.names book.now).spaces < 64 * length (B.roster book.now).requests }
+    ensures terms { IsTrue result
+        → length (B.names book.now).terms < 64 * length (B.roster book.now).requests }
+    ensures nonces { IsTrue result
+        → length (B.names book.now).nonces < 16 * length (B.roster book.now).requests }
+    ensures texts { IsTrue result
+        → length (B.names book.now).texts < 64 * length (B.roster book.now).requests }
 {
     let names = book.names();
     let requests = roster.requests.len();

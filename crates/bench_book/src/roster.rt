@@ -1,5 +1,5 @@
-//! The requests of a day: of 2,048 numbers each has its host, its directory and its partition by what is
-//! left of it when it is divided by five, seven and three. Half go over a proxy.
+//! The requests of a day: of 2,048 numbers each has its host, its directory and its partition by
+//! what is left of it when it is divided by five, seven and three. Half go over a proxy.
 
 use auth_text::{Bytes, NoMemory};
 use spaces::{
@@ -65,8 +65,8 @@ pub fn roster(alloc: Global) -> Result<Roster, NoMemory> {
     Ok(Roster { requests, allowed })
 }
 
-/// The Basic space of the proxy, where the host is 0, and else that of the host: 1 is Basic, 2 and 3 are
-/// Digest, 4 is Negotiate.
+/// The Basic space of the proxy, where the host is 0, and else that of the host: 1 is Basic, 2 and
+/// 3 are Digest, 4 is Negotiate.
 pub fn space(alloc: Global, side: u8, host: u8) -> Result<Space, NoMemory> {
     let partition = partition(alloc, side)?;
     let target = if host == 0 {

@@ -12,7 +12,8 @@ use std::alloc::Global;
 const PIECE: &[u8] =
     b"Digest realm=\"the north, wing\", nonce=\"5f2d9a7c41e0b83d6\", algorithm=SHA-256, qop=\"auth\", stale=false, opaque=\"k\\\"9\", Basic realm=\"lobby\", Negotiate, ";
 
-/// Parameters that follow each other are this far apart by number. It shares no factor with their counts.
+/// Parameters that follow each other are this far apart by number. It shares no factor with their
+/// counts.
 const STRIDE: u64 = 7_919;
 
 /// So many copies of a piece of a field, one behind the other.
@@ -28,7 +29,8 @@ fn copies(alloc: Global, piece: &[u8], count: u32) -> Result<Bytes, NoMemory>
 
 /// Reads a field so often, and tells how many of the readings came to its end.
 fn whole_readings(alloc: Global, field: &[u8], times: u32) -> Result<u32, NoMemory>
-    ensures { IfOk result (λ whole. whole ≡ (if is_none (field_read field.now).bad_at then times else 0)) }
+    ensures { IfOk result (λ whole. whole
+        ≡ (if is_none (field_read field.now).bad_at then times else 0)) }
 {
     let mut whole = 0;
     for _reading in 0..times {

@@ -73,7 +73,8 @@ fn is_given(prompter: &mut ScriptPrompter, ask: &Ask) -> Result<bool, NoMemory>
 /// Asks each prompt, and tells how many got an identity.
 fn given(prompter: &mut ScriptPrompter, prompts: &[Ask]) -> Result<usize, NoMemory>
     ensures { IfOk result (λ given. given
-        ≡ count_by (λ ask. is_some (answer_in prompter.old.answers ask.space ask.ordinal)) prompts.now) }
+        ≡ count_by
+        (λ ask. is_some (answer_in prompter.old.answers ask.space ask.ordinal)) prompts.now) }
 {
     let mut given = 0;
     for ask in prompts {
@@ -84,8 +85,8 @@ fn given(prompter: &mut ScriptPrompter, prompts: &[Ask]) -> Result<usize, NoMemo
     Ok(given)
 }
 
-/// Makes a prompter of as many answers as the square of the number of spaces, and asks so many prompts.
-/// Each gets an identity.
+/// Makes a prompter of as many answers as the square of the number of spaces, and asks so many
+/// prompts. Each gets an identity.
 pub fn run(alloc: Global, spaces: u32, times: u32) -> Result<u32, NoMemory>
     requires { 0 < spaces }
 {

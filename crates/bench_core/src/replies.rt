@@ -44,7 +44,8 @@ fn is_whole_reply(alloc: Global, text: &[u8]) -> Result<bool, NoMemory>
 
 /// Reads the text so often, and tells how many of the readings found a whole reply.
 fn whole_replies(alloc: Global, text: &[u8], times: u32) -> Result<u32, NoMemory>
-    ensures { IfOk result (λ whole. whole ≡ (if is_whole (reply Get text.now false) then times else 0)) }
+    ensures { IfOk result (λ whole. whole
+        ≡ (if is_whole (reply Get text.now false) then times else 0)) }
 {
     let mut whole = 0;
     for _reading in 0..times {

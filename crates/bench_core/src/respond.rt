@@ -38,7 +38,9 @@ fn made(
     len: usize,
     times: u32,
 ) -> Result<u32, NoMemory>
-    ensures { IfOk result (λ made. made ≡ (if length (digest_credentials terms.now login.now Get URI.now 1 CLIENT_NONCE.now) == len then times else 0)) }
+    ensures { IfOk result (λ made. made
+        ≡ (if length (digest_credentials terms.now login.now Get URI.now 1 CLIENT_NONCE.now)
+        == len then times else 0)) }
 {
     let mut made = 0;
     for _request in 0..times {

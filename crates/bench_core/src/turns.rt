@@ -1,6 +1,7 @@
 //! Turns that one thread, two, four or sixteen take on one list of notes. Each turn adds a note.
 
-ghost use Rattle.std.specs.Prelude.{◌≡◌, ◌+◌, ◌-◌, ◌++◌, ◌∷◌, [], ◌<◌, ◌≤◌, ◌^◌, All, length, vec_len, IsTrue, MatchBool, IfOk};
+ghost use Rattle.std.specs.Prelude.{◌≡◌, ◌+◌, ◌-◌, ◌++◌, ◌∷◌, [], ◌<◌, ◌≤◌, ◌^◌, All, length};
+ghost use Rattle.std.specs.Prelude.{vec_len, IsTrue, MatchBool, IfOk};
 ghost use Rattle.turnstile.specs.Passes.{IsOf, IsNewPass, AreNewPasses};
 ghost use Rattle.bench_core.specs.Turns.{turns_of};
 
@@ -42,7 +43,8 @@ impl Told for Notes {
 
 /// The notes with one more, where there is room for it.
 fn with_note(notes: Notes, note: Note) -> (Notes, bool)
-    ensures { MatchBool result.1 (result.0.list.items ≡ notes.list.items ++ note ∷ []) (result.0.list.items ≡ notes.list.items) }
+    ensures { MatchBool result.1 (result.0.list.items
+        ≡ notes.list.items ++ note ∷ []) (result.0.list.items ≡ notes.list.items) }
 {
     let Notes { mut list } = notes;
     let added = list.len() < 4_000_000_000 && list.push(note).is_ok();
@@ -59,7 +61,8 @@ fn take_turn<R: Wait>(
     requires of { IsOf lock.now pass }
     requires own { note.pass ≡ pass.number }
     ensures of { IsOf lock.now result.0 × (result.0.number ≡ pass.number) }
-    ensures mine { MatchBool result.1 (result.0.mine ≡ pass.mine ++ note ∷ []) (result.0.mine ≡ pass.mine) }
+    ensures mine { MatchBool result.1 (result.0.mine
+        ≡ pass.mine ++ note ∷ []) (result.0.mine ≡ pass.mine) }
 {
     let (notes, inside) = lock.enter(rt, pass);
     let (notes, added) = with_note(notes, note);
@@ -121,7 +124,8 @@ fn last_pass(lock: &Turnstile<Notes>, passes: &mut Passes<Notes>) -> Pass<Notes>
     ensures pass { IsNewPass lock.now (length passes.old.list) result }
     ensures rest { AreNewPasses lock.now passes.new.list }
     ensures len { length passes.new.list + 1 ≡ length passes.old.list }
-    ensures room { (passes.new.room ≡ passes.old.room) × (length passes.old.list ≤ passes.new.room) }
+    ensures room { (passes.new.room ≡ passes.old.room)
+        × (length passes.old.list ≤ passes.new.room) }
 {
     let Some(last) = passes.pop() else {
         unreachable!()
@@ -136,7 +140,8 @@ fn last_worker(lock: &Turnstile<Notes>, passes: &mut Passes<Notes>, number: u32)
     ensures worker { IsOf lock.now result.pass × (result.pass.mine ≡ []) }
     ensures rest { AreNewPasses lock.now passes.new.list }
     ensures len { length passes.new.list + 1 ≡ length passes.old.list }
-    ensures room { (passes.new.room ≡ passes.old.room) × (length passes.old.list ≤ passes.new.room) }
+    ensures room { (passes.new.room ≡ passes.old.room)
+        × (length passes.old.list ≤ passes.new.room) }
 {
     let pass = last_pass(lock, passes);
     Worker { pass, number }
@@ -174,8 +179,8 @@ fn counted(notes: u32, is_complete: bool) -> Result<u32, NoMemory> {
     }
 }
 
-/// So many turns in all, by the passes of the list in a thread each. It tells whether there was room for
-/// all notes.
+/// So many turns in all, by the passes of the list in a thread each. It tells whether there was
+/// room for all notes.
 fn take_turns_by_all<R: Wait + Threads + Sync>(
     rt: &R,
     lock: &Turnstile<Notes>,
@@ -212,8 +217,8 @@ fn take_turns_by_all<R: Wait + Threads + Sync>(
     (passes, done && others)
 }
 
-/// Takes so many turns by so many threads, and tells how many notes there are at the end. There are 1 to
-/// 16 threads; by none, or by more, no turn is taken.
+/// Takes so many turns by so many threads, and tells how many notes there are at the end. There are
+/// 1 to 16 threads; by none, or by more, no turn is taken.
 pub fn run<R: Wait + Threads + Sync>(
     rt: &R,
     alloc: Global,

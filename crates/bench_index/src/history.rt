@@ -1,5 +1,5 @@
-//! A history of pairs of requests. Of each pair one leads prompts that the other follows, by turns, and
-//! makes all other calls; each call is made where it is allowed.
+//! A history of pairs of requests. Of each pair one leads prompts that the other follows, by turns,
+//! and makes all other calls; each call is made where it is allowed.
 
 ghost use Rattle.std.specs.Prelude.{◌≡◌};
 
@@ -23,8 +23,9 @@ const TURNS: u32 = 9;
 /// How many pairs take none, so that as many spaces as a partition keeps are live early on.
 const SHORT: u32 = 32;
 
-/// The reply to a call of the caller that has the request's number, where the call is allowed. Its time is
-/// that of the call alone, and not that of the look whether it is allowed, which scans the journal.
+/// The reply to a call of the caller that has the request's number, where the call is allowed. Its
+/// time is that of the call alone, and not that of the look whether it is allowed, which scans the
+/// journal.
 fn timed<C: Clock, B: Controller>(
     clock: &C,
     meter: &mut Meter,
@@ -204,8 +205,8 @@ fn serve<C: Clock, B: Controller>(
     Some(())
 }
 
-/// Serves pairs until the journal has so many entries, and then some more, whose times are the answer;
-/// none where a call wasn't allowed, or where there are too few pairs.
+/// Serves pairs until the journal has so many entries, and then some more, whose times are the
+/// answer; none where a call wasn't allowed, or where there are too few pairs.
 pub fn played<C: Clock, B: Controller>(
     alloc: Global,
     clock: &C,

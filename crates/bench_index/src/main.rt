@@ -1,6 +1,7 @@
 //! How long each call on a book takes behind a journal of a given length. The words are `plain` or
 //! `indexed`, for the book that scans its journal or the one that has an index, and the number of
-//! entries; then a line for each call that is made behind them tells its kind and its time in nanoseconds.
+//! entries; then a line for each call that is made behind them tells its kind and its time in
+//! nanoseconds.
 #![tactic(auto)]
 
 mod history;

@@ -1,4 +1,5 @@
-//! The names that the calls of a pair of requests speak of: a Digest space, two terms of it, and one text.
+//! The names that the calls of a pair of requests speak of: a Digest space, two terms of it, and
+//! one text.
 
 ghost use Rattle.std.specs.Prelude.{◌≡◌, ◌<◌, ◌*◌, length, IsTrue};
 ghost use Rattle.auth_events.specs.Tables.{is_home};
@@ -9,8 +10,8 @@ use auth_text::{Bytes, Identity, NoMemory};
 use spaces::{Algorithm, Qop, Roster, Scheme, Terms};
 use std::alloc::Global;
 
-/// The numbers of a pair's space, of the terms that it is selected with, and of those that it is renewed
-/// with.
+/// The numbers of a pair's space, of the terms that it is selected with, and of those that it is
+/// renewed with.
 #[derive(Clone, Copy)]
 pub struct Numbers {
     pub space: u32,
@@ -21,10 +22,14 @@ pub struct Numbers {
 /// Whether the book may name one more of each kind.
 fn has_room<B: Controller>(book: &B, roster: &Roster) -> bool
     requires { B.roster book.now ≡ roster.now }
-    ensures spaces { IsTrue result → length (B.names book.now).spaces < 64 * length (B.roster book.now).requests }
-    ensures terms { IsTrue result → length (B.names book.now).terms < 64 * length (B.roster book.now).requests }
-    ensures nonces { IsTrue result → length (B.names book.now).nonces < 16 * length (B.roster book.now).requests }
-    ensures texts { IsTrue result → length (B.names book.now).texts < 64 * length (B.roster book.now).requests }
+    ensures spaces { IsTrue result
+        → length (B.names book.now).spaces < 64 * length (B.roster book.now).requests }
+    ensures terms { IsTrue result
+        → length (B.names book.now).terms < 64 * length (B.roster book.now).requests }
+    ensures nonces { IsTrue result
+        → length (B.names book.now).nonces < 16 * length (B.roster book.now).requests }
+    ensures texts { IsTrue result
+        → length (B.names book.now).texts < 64 * length (B.roster book.now).requests }
 {
     let names = book.names();
     let requests = roster.requests.len();

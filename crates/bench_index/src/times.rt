@@ -11,8 +11,8 @@ pub struct Time {
     pub nanos: u32,
 }
 
-/// The times so far, and memory that is gone over before a call: so each call finds the processor's caches
-/// without the book, however long the journal is.
+/// The times so far, and memory that is gone over before a call: so each call finds the processor's
+/// caches without the book, however long the journal is.
 #[derive(Drop)]
 pub struct Meter {
     pub is_on: bool,

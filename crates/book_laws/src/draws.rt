@@ -10,8 +10,8 @@ ghost use Rattle.auth_events.specs.Fresh.{StepTold, fresh, merge};
 ghost use Rattle.book_laws.specs.Drawing.{AreDraws};
 
 /// A legal journal stays legal when the draws of its requests' traces are inserted, and the merged
-/// history is fresh, where the draws are those of the words: each count of a nonce once, no epoch below
-/// what the request had seen or above the journal's.
+/// history is fresh, where the draws are those of the words: each count of a nonce once, no epoch
+/// below what the request had seen or above the journal's.
 pub fn merged_history_is_legal_and_fresh()
     ensures entries { (names : Tables) (journal : List Entry)
         (traces : List (List StepTold)) (drawn : List NonceDraw)

@@ -1,6 +1,6 @@
-//! What holds of a book that many callers share, over the definitions alone: what a caller was allowed
-//! and has left stays so while others make entries, a gift keeps its identity, and a legal journal stays
-//! legal, and becomes fresh, once the draws of its requests are inserted.
+//! What holds of a book that many callers share, over the definitions alone: what a caller was
+//! allowed and has left stays so while others make entries, a gift keeps its identity, and a legal
+//! journal stays legal, and becomes fresh, once the draws of its requests are inserted.
 #![tactic(auto)]
 
 mod callers;

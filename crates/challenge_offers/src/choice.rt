@@ -41,8 +41,8 @@ fn best(offers: &[Offer]) -> Option<&Offer>
 
 /// The first offer of that space at the site.
 fn first_of_space<'a>(site: &Site, space: &Space, offers: &'a [Offer]) -> Option<&'a Offer>
-    ensures { option_map offered (option_copied result)
-        ≡ find (λ offer. same_space (rule.space_at site.now offer) space.now) (map offered offers.now) }
+    ensures { option_map offered (option_copied result) ≡ find
+        (λ offer. same_space (rule.space_at site.now offer) space.now) (map offered offers.now) }
 {
     for offer in offers {
         if offer.is_of_space(site, space) {
@@ -61,9 +61,9 @@ fn copied(offer: Option<&Offer>) -> Result<Option<Offer>, NoMemory>
     }
 }
 
-/// The best challenge of a reply, where one can be answered: Negotiate before Digest before Basic, and of
-/// one scheme the first (RFC 7235 section 2.1 leaves the choice to the client). Negotiate ones are
-/// passed over where `negotiates` doesn't hold.
+/// The best challenge of a reply, where one can be answered: Negotiate before Digest before Basic,
+/// and of one scheme the first (RFC 7235 section 2.1 leaves the choice to the client). Negotiate
+/// ones are passed over where `negotiates` doesn't hold.
 pub fn best_offer(alloc: Global, negotiates: bool, reply: &Reply) -> Result<Option<Offer>, NoMemory>
     ensures { IfOk result (λ offer. option_map offered offer
         ≡ rule.best (rule.supported negotiates reply.now)) }
@@ -73,8 +73,8 @@ pub fn best_offer(alloc: Global, negotiates: bool, reply: &Reply) -> Result<Opti
     Ok(offer)
 }
 
-/// The challenge of a reply that decides on a Basic or Digest identity which was sent for the space, at
-/// the site: the first that can be answered and is of that space.
+/// The challenge of a reply that decides on a Basic or Digest identity which was sent for the
+/// space, at the site: the first that can be answered and is of that space.
 pub fn deciding_offer(
     alloc: Global,
     site: &Site,
@@ -82,7 +82,8 @@ pub fn deciding_offer(
     reply: &Reply,
 ) -> Result<Option<Offer>, NoMemory>
     ensures { IfOk result (λ offer. option_map offered offer
-        ≡ find (λ offer. same_space (rule.space_at site.now offer) space.now) (rule.supported false reply.now)) }
+        ≡ find (λ offer.
+        same_space (rule.space_at site.now offer) space.now) (rule.supported false reply.now)) }
 {
     let offers = supported(alloc, false, reply)?;
     let offer = copied(first_of_space(site, space, offers.as_slice()))?;

@@ -1,6 +1,6 @@
-//! What a reply's challenges offer: which of them can be answered, which is the best, and which decides
-//! on an identity that is held; the token that a reply brings to a context, and the nonce that it gives
-//! for the next request. The definitions are those by which traces are judged.
+//! What a reply's challenges offer: which of them can be answered, which is the best, and which
+//! decides on an identity that is held; the token that a reply brings to a context, and the nonce
+//! that it gives for the next request. The definitions are those by which traces are judged.
 #![tactic(auto)]
 
 mod choice;

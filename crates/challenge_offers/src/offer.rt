@@ -1,5 +1,5 @@
-//! One challenge that can be answered, and what is needed to answer it. A challenge that isn't one is
-//! passed over, so that the next one of the reply is looked at.
+//! One challenge that can be answered, and what is needed to answer it. A challenge that isn't one
+//! is passed over, so that the next one of the reply is looked at.
 
 ghost use Rattle.std.specs.Prelude.{◌≡◌, codes, bytes_eq, option_map, IfOk, true};
 ghost use Rattle.std.specs.Option.{option_copied};
@@ -19,8 +19,8 @@ use std::alloc::Global;
 pub enum Offer {
     /// RFC 7617. A realm that isn't said is empty.
     Basic { realm: Bytes },
-    /// RFC 7616, and RFC 2617 where there is no qop. The realm is that of the terms. With `stale` the
-    /// credentials were right but for their nonce.
+    /// RFC 7616, and RFC 2617 where there is no qop. The realm is that of the terms. With `stale`
+    /// the credentials were right but for their nonce.
     Digest { terms: Terms, stale: bool },
     /// RFC 4559.
     Negotiate,
@@ -119,7 +119,8 @@ pub(crate) fn offer_of(
     negotiates: bool,
     challenge: &Challenge,
 ) -> Result<Option<Offer>, NoMemory>
-    ensures { IfOk result (λ offer. option_map offered offer ≡ rule.offer negotiates challenge.now) }
+    ensures { IfOk result (λ offer. option_map offered offer
+        ≡ rule.offer negotiates challenge.now) }
 {
     if has_scheme(challenge, b"basic") {
         basic_offer(alloc, challenge)

@@ -31,8 +31,8 @@ fn push_offers(
     Ok(())
 }
 
-/// The challenges of a reply that can be answered: all of its Basic ones but those with a token68, the
-/// Digest ones whose terms can be computed, and the Negotiate ones where `negotiates` holds.
+/// The challenges of a reply that can be answered: all of its Basic ones but those with a token68,
+/// the Digest ones whose terms can be computed, and the Negotiate ones where `negotiates` holds.
 pub(crate) fn supported(alloc: Global, negotiates: bool, reply: &Reply) -> Result<Offers, NoMemory>
     ensures { IfOk result (λ offers. map offered offers ≡ rule.supported negotiates reply.now) }
 {

@@ -22,8 +22,8 @@ fn token_among(alloc: Global, challenges: &[Challenge]) -> Result<Option<Option<
     Ok(None)
 }
 
-/// What the first `negotiate` challenge of a reply brings to a context, whatever its body: the peer's
-/// token, or none, by which the peer rejects. Nothing where the reply has no such challenge.
+/// What the first `negotiate` challenge of a reply brings to a context, whatever its body: the
+/// peer's token, or none, by which the peer rejects. Nothing where the reply has no such challenge.
 pub fn token_offered(alloc: Global, reply: &Reply) -> Result<Option<Option<Bytes>>, NoMemory>
     ensures { IfOk result (λ token. token ≡ token_offered reply.now) }
 {

@@ -89,7 +89,8 @@ impl Begun {
     /// With one more parameter, unless its name is there.
     pub fn with(self, alloc: Global, param: Param) -> Result<Begun, NoMemory>
         requires { IsTrue (is_lower param.name) }
-        ensures { IfOk result (λ next. next ≡ record { scheme = self.scheme; body = extend self.body (param ∷ []) }) }
+        ensures { IfOk result (λ next. next
+            ≡ record { scheme = self.scheme; body = extend self.body (param ∷ []) }) }
     {
         let Begun { scheme, argument } = self;
         let argument = extended(alloc, argument, param)?;

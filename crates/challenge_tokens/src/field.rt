@@ -1,4 +1,5 @@
-//! The reading of a whole field, piece by piece from the left, up to its end or its first bad piece.
+//! The reading of a whole field, piece by piece from the left, up to its end or its first bad
+//! piece.
 
 ghost use Rattle.std.specs.Prelude.{◌≡◌, IsTrue, IfOk};
 ghost use Rattle.challenge_tokens.specs.Names.{is_lower};
@@ -97,7 +98,8 @@ fn with_form(alloc: Global, reading: Reading, form: Form) -> Result<Reading, NoM
 }
 
 fn field(reading: Reading, bad_at: Option<usize>) -> Result<FieldRead, NoMemory>
-    ensures { IfOk result (λ read. read ≡ record { challenges = spec.so_far reading; bad_at = bad_at }) }
+    ensures { IfOk result (λ read. read
+        ≡ record { challenges = spec.so_far reading; bad_at = bad_at }) }
 {
     Ok(FieldRead {
         challenges: finished(reading)?,
@@ -126,7 +128,8 @@ fn next_by(alloc: Global, reading: Reading, form: Form, n: usize) -> Result<Next
 
 /// What the piece in front leaves.
 fn next_at(alloc: Global, reading: Reading, text: &[u8]) -> Result<Next, NoMemory>
-    ensures { IfOk result (λ next. next ≡ spec.next_of reading (front text.now) (first_len Quoting.Outside text.now)) }
+    ensures { IfOk result (λ next. next
+        ≡ spec.next_of reading (front text.now) (first_len Quoting.Outside text.now)) }
 {
     if let Some(n) = blank_piece(text) {
         return Ok(Next::Goes(reading, n));
@@ -137,11 +140,11 @@ fn next_at(alloc: Global, reading: Reading, text: &[u8]) -> Result<Next, NoMemor
     }
 }
 
-/// Reads a field's value as a list of challenges, after RFC 7235 section 2.1. The value is cut at its
-/// commas outside quoted strings, and each piece begins a challenge or adds a parameter to the one
-/// begun last. The first piece that does neither ends the reading: `bad_at` is the place of its first
-/// byte, and the challenges begun before it stand. Of a parameter given twice the first counts. The
-/// value is read in one pass.
+/// Reads a field's value as a list of challenges, after RFC 7235 section 2.1. The value is cut at
+/// its commas outside quoted strings, and each piece begins a challenge or adds a parameter to the
+/// one begun last. The first piece that does neither ends the reading: `bad_at` is the place of its
+/// first byte, and the challenges begun before it stand. Of a parameter given twice the first
+/// counts. The value is read in one pass.
 pub fn read_field(alloc: Global, value: &[u8]) -> Result<FieldRead, NoMemory>
     ensures { IfOk result (λ read. read ≡ field_read value.now) }
 {

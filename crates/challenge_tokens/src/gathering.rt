@@ -1,7 +1,9 @@
-//! Parameters while they are gathered, of which the first of each name counts. A list that grows long
-//! gets an ordered set of its names beside it, so that a new name isn't compared with all of them.
+//! Parameters while they are gathered, of which the first of each name counts. A list that grows
+//! long gets an ordered set of its names beside it, so that a new name isn't compared with all of
+//! them.
 
-ghost use Rattle.std.specs.Prelude.{◌≡◌, [], ◌∷◌, ◌++◌, ◌||◌, ℕ, List, not, bytes_eq, IsTrue, IfOk, OnOk};
+ghost use Rattle.std.specs.Prelude.{◌≡◌, [], ◌∷◌, ◌++◌, ◌||◌, ℕ, List, not, bytes_eq, IsTrue, IfOk};
+ghost use Rattle.std.specs.Prelude.{OnOk};
 ghost use Rattle.challenge_tokens.specs.Names.{is_lower, has_name};
 ghost use Rattle.challenge_tokens.specs.Indexes.{has_key, IsIndexOf, IsKnown};
 ghost use Rattle.challenge_tokens.specs.Pieces.{join};
@@ -39,7 +41,8 @@ impl Model for Gathering {
 
 /// Adds a name, and tells whether it is new.
 fn push_name(alloc: Global, names: &mut Names, name: &[u8]) -> Result<bool, NoMemory>
-    ensures names { OnOk result ((q : List ℕ) → has_key q names.new ≡ (bytes_eq q name.now || has_key q names.old)) }
+    ensures names { OnOk result ((q : List ℕ)
+        → has_key q names.new ≡ (bytes_eq q name.now || has_key q names.old)) }
     ensures fresh { IfOk result (λ added. added ≡ not (has_key name.now names.old)) }
 {
     let added = names.insert(Vec::from_slice(alloc, name)?)?;

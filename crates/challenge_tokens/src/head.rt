@@ -1,10 +1,14 @@
-//! What the piece in front of a text is, read in one pass from its first byte on: the place where the
-//! piece ends is where the reading stops. Of a bad piece nothing more is read than shows that it is bad.
+//! What the piece in front of a text is, read in one pass from its first byte on: the place where
+//! the piece ends is where the reading stops. Of a bad piece nothing more is read than shows that
+//! it is bad.
 
-ghost use Rattle.std.specs.Prelude.{◌≡◌, ◌≤◌, ◌<◌, ◌+◌, ◌==◌, false, length, take, drop, IfOk, IfSome};
+ghost use Rattle.std.specs.Prelude.{◌≡◌, ◌≤◌, ◌<◌, ◌+◌, ◌==◌, false, length, take, drop, IfOk};
+ghost use Rattle.std.specs.Prelude.{IfSome};
 ghost use Rattle.std.specs.List.{prefix_len};
-ghost use Rattle.challenge_tokens.specs.Forms.{token_len as name_len, is_token68_byte, param_of, head_param, argument_form, form_of};
-ghost use Rattle.challenge_tokens.specs.Front.{front, sized, then_blank, unless_bad, after_token, value_after};
+ghost use Rattle.challenge_tokens.specs.Forms.{token_len as name_len, is_token68_byte, param_of};
+ghost use Rattle.challenge_tokens.specs.Forms.{head_param, argument_form, form_of};
+ghost use Rattle.challenge_tokens.specs.Front.{front, sized, then_blank, unless_bad, after_token};
+ghost use Rattle.challenge_tokens.specs.Front.{value_after};
 ghost use Rattle.challenge_tokens.specs.Front as spec;
 
 use crate::params::Param;
@@ -22,7 +26,9 @@ fn with_token68(
     n: usize,
 ) -> Result<Option<(Form, usize)>, NoMemory>
     requires { n ≤ length text.now }
-    ensures value { IfOk result (λ read. read ≡ then_blank (Form.WithToken scheme (take n text.now)) n (spec.blank_piece (drop n text.now))) }
+    ensures value { IfOk result (λ read. read
+        ≡ then_blank
+        (Form.WithToken scheme (take n text.now)) n (spec.blank_piece (drop n text.now))) }
     ensures within { IfOk result (λ read. IfSome read (λ x. x.1 ≤ length text.now)) }
 {
     match blank_piece(rest_of(text, n)) {
@@ -44,7 +50,8 @@ fn with_param(
     requires name { n ≡ name_len text.now }
     requires some { 0 < n }
     requires all { n ≤ length text.now }
-    ensures value { IfOk result (λ read. read ≡ sized (unless_bad (head_param scheme (param_of (front text.now)))) text.now) }
+    ensures value { IfOk result (λ read. read
+        ≡ sized (unless_bad (head_param scheme (param_of (front text.now)))) text.now) }
     ensures within { IfOk result (λ read. IfSome read (λ x. x.1 ≤ length text.now)) }
 {
     let more = rest_of(text, n);
@@ -86,7 +93,8 @@ fn with_either(
     requires token { n ≡ prefix_len is_token68_byte text.now }
     requires some { 0 < n }
     requires all { n ≤ length text.now }
-    ensures value { IfOk result (λ read. read ≡ sized (unless_bad (argument_form scheme (front text.now))) text.now) }
+    ensures value { IfOk result (λ read. read
+        ≡ sized (unless_bad (argument_form scheme (front text.now))) text.now) }
     ensures within { IfOk result (λ read. IfSome read (λ x. x.1 ≤ length text.now)) }
 {
     let rest = rest_of(text, n);
@@ -112,7 +120,8 @@ fn with_either(
 
 /// What stands behind a scheme and its spaces, and how many bytes that piece has.
 fn argument(alloc: Global, scheme: Bytes, text: &[u8]) -> Result<Option<(Form, usize)>, NoMemory>
-    ensures value { IfOk result (λ read. read ≡ sized (unless_bad (argument_form scheme (front text.now))) text.now) }
+    ensures value { IfOk result (λ read. read
+        ≡ sized (unless_bad (argument_form scheme (front text.now))) text.now) }
     ensures within { IfOk result (λ read. IfSome read (λ x. x.1 ≤ length text.now)) }
 {
     let common = common_len(text);
@@ -134,7 +143,8 @@ fn argument(alloc: Global, scheme: Bytes, text: &[u8]) -> Result<Option<(Form, u
 
 /// What the piece in front is, from what stands behind its first token.
 fn behind_token(alloc: Global, token: Bytes, text: &[u8]) -> Result<Option<(Form, usize)>, NoMemory>
-    ensures value { IfOk result (λ read. read ≡ sized (unless_bad (after_token token (front text.now))) text.now) }
+    ensures value { IfOk result (λ read. read
+        ≡ sized (unless_bad (after_token token (front text.now))) text.now) }
     ensures within { IfOk result (λ read. IfSome read (λ x. x.1 ≤ length text.now)) }
 {
     let spaces = space_len(text);
@@ -164,7 +174,8 @@ fn behind_token(alloc: Global, token: Bytes, text: &[u8]) -> Result<Option<(Form
 
 /// What the piece in front is, and how many bytes it has; `None` where it is bad.
 pub fn form(alloc: Global, text: &[u8]) -> Result<Option<(Form, usize)>, NoMemory>
-    ensures value { IfOk result (λ read. read ≡ sized (unless_bad (form_of (front text.now))) text.now) }
+    ensures value { IfOk result (λ read. read
+        ≡ sized (unless_bad (form_of (front text.now))) text.now) }
     ensures within { IfOk result (λ read. IfSome read (λ x. x.1 ≤ length text.now)) }
 {
     let n = token_len(text);

@@ -1,4 +1,5 @@
-//! The reading of an `Authentication-Info` value: parameters alone, up to the first piece that isn't one.
+//! The reading of an `Authentication-Info` value: parameters alone, up to the first piece that
+//! isn't one.
 
 ghost use Rattle.std.specs.Prelude.{◌≡◌, IsTrue, IfOk};
 ghost use Rattle.challenge_tokens.specs.Forms.{is_lower_form};
@@ -38,7 +39,8 @@ fn gathered_by(alloc: Global, so_far: Gathering, form: Form, n: usize) -> Result
 
 /// What the piece in front leaves.
 fn gathered_at(alloc: Global, so_far: Gathering, text: &[u8]) -> Result<After, NoMemory>
-    ensures { IfOk result (λ next. next ≡ spec.gathered_of so_far (front text.now) (first_len Outside text.now)) }
+    ensures { IfOk result (λ next. next
+        ≡ spec.gathered_of so_far (front text.now) (first_len Outside text.now)) }
 {
     if let Some(n) = blank_piece(text) {
         return Ok(After::Goes(so_far, n));
@@ -49,10 +51,10 @@ fn gathered_at(alloc: Global, so_far: Gathering, text: &[u8]) -> Result<After, N
     }
 }
 
-/// Reads the value of an `Authentication-Info` or `Proxy-Authentication-Info` field (RFC 7615 section
-/// 3), of which RFC 7616 section 3.5 names the parameters. It is cut as `read_field` cuts a value. The
-/// parameters before the first piece that isn't one are gathered, and of a parameter given twice the
-/// first counts. Any bytes are read, in one pass, and nothing is refused.
+/// Reads the value of an `Authentication-Info` or `Proxy-Authentication-Info` field (RFC 7615
+/// section 3), of which RFC 7616 section 3.5 names the parameters. It is cut as `read_field` cuts a
+/// value. The parameters before the first piece that isn't one are gathered, and of a parameter
+/// given twice the first counts. Any bytes are read, in one pass, and nothing is refused.
 pub fn read_info(alloc: Global, value: &[u8]) -> Result<Params, NoMemory>
     ensures { IfOk result (λ params. params ≡ info_read value.now) }
 {

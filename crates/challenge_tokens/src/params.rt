@@ -1,9 +1,11 @@
 //! The parameters of one challenge. Distinct names are a fact of the type, so that no reader of a
 //! challenge has to say which of two realms counts.
 
-ghost use Rattle.std.specs.Prelude.{◌≡◌, ◌∷◌, ◌++◌, [], ◌<◌, IsTrue, false, length, slice_get, OnSome, OnOk, OnErr, IfErr, MatchOption};
+ghost use Rattle.std.specs.Prelude.{◌≡◌, ◌∷◌, ◌++◌, [], ◌<◌, IsTrue, false, length, slice_get};
+ghost use Rattle.std.specs.Prelude.{OnSome, OnOk, OnErr, IfErr, MatchOption};
 ghost use Rattle.std.specs.Option.{option_copied};
-ghost use Rattle.challenge_tokens.specs.Names.{is_lower, has_name, are_params, is_same_name, value_under};
+ghost use Rattle.challenge_tokens.specs.Names.{is_lower, has_name, are_params, is_same_name};
+ghost use Rattle.challenge_tokens.specs.Names.{value_under};
 
 use auth_text::{Bytes, Items};
 use std::alloc::{AllocFailed, Global};
@@ -81,7 +83,8 @@ impl Params {
 
     /// Takes the last parameter out, where there is one.
     pub fn pop(&mut self) -> Option<Param>
-        ensures { MatchOption result ((self.old ≡ []) × (self.new ≡ [])) (λ last. self.old ≡ self.new ++ last ∷ []) }
+        ensures { MatchOption result ((self.old ≡ [])
+            × (self.new ≡ [])) (λ last. self.old ≡ self.new ++ last ∷ []) }
     {
         self.items.pop()
     }

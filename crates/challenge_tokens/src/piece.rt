@@ -8,8 +8,8 @@ ghost use Rattle.challenge_tokens.specs.Front.{is_common};
 use crate::params::Param;
 use auth_text::{Bytes, is_tchar};
 
-/// Where a byte lies: outside quoted strings, in one, or in one behind a backslash. The rule on pieces
-/// speaks of it; the reading takes a quoted string as a whole.
+/// Where a byte lies: outside quoted strings, in one, or in one behind a backslash. The rule on
+/// pieces speaks of it; the reading takes a quoted string as a whole.
 #[derive(Clone, Copy)]
 pub enum Quoting {
     Outside,

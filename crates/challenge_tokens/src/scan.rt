@@ -1,5 +1,5 @@
-//! The reading of a parameter's value from the front of a text in one pass: the place where its piece
-//! ends is where the reading stops, and is not looked for first.
+//! The reading of a parameter's value from the front of a text in one pass: the place where its
+//! piece ends is where the reading stops, and is not looked for first.
 
 ghost use Rattle.std.specs.Prelude.{◌≡◌, ◌≤◌, true, false, length, take, drop, IfOk, IfSome};
 ghost use Rattle.auth_text.specs.Quoted.{quoted};
@@ -105,7 +105,8 @@ pub fn value(alloc: Global, text: &[u8]) -> Result<Option<(Bytes, usize)>, NoMem
 
 /// The value behind the `=` that the piece in front begins with, and how many bytes that piece has.
 pub fn value_behind(alloc: Global, text: &[u8]) -> Result<Option<(Bytes, usize)>, NoMemory>
-    ensures value { IfOk result (λ read. read ≡ sized (forms.value_behind (front text.now)) text.now) }
+    ensures value { IfOk result (λ read. read
+        ≡ sized (forms.value_behind (front text.now)) text.now) }
     ensures within { IfOk result (λ read. IfSome read (λ x. x.1 ≤ length text.now)) }
 {
     if !starts(text, b'=') {

@@ -3,7 +3,8 @@
 
 ghost use Rattle.std.specs.Prelude.{◌≡◌, ◌≢◌, ◌≤◌, ◌||◌, [], length, IfOk, IfErr, unwrap_or, true};
 ghost use Rattle.link_trait.specs.Links.{has_link, without_link, Sends};
-ghost use Rattle.connection_binding.specs.Ends.{wrote_by, is_whole, IsSendFault, IsReadFault, IsNoReadFault};
+ghost use Rattle.connection_binding.specs.Ends.{wrote_by, is_whole, IsSendFault, IsReadFault};
+ghost use Rattle.connection_binding.specs.Ends.{IsNoReadFault};
 ghost use Rattle.connection_binding.specs.LinkStates.{new_link};
 ghost use Rattle.connection_binding.specs.Readings.{IsOver};
 
@@ -17,8 +18,8 @@ use spaces::Method;
 use std::alloc::Global;
 use std::marker::Model;
 
-/// An open link over which a token went. Contracts see its name, the bytes that were read behind its
-/// last reply, and whether it gave one. It is not dropped, but spent.
+/// An open link over which a token went. Contracts see its name, the bytes that were read behind
+/// its last reply, and whether it gave one. It is not dropped, but spent.
 #[derive(Debug)]
 pub struct BoundLink {
     name: LinkName,
@@ -88,8 +89,8 @@ impl BoundLink {
     }
 
     /// Reads the next reply, to a request of that method: first from the bytes that came behind the
-    /// last one, then piece by piece, until the bytes show it or a fault. What comes behind it is kept
-    /// for the one after; a reading that gives no reply keeps nothing. The link stays open.
+    /// last one, then piece by piece, until the bytes show it or a fault. What comes behind it is
+    /// kept for the one after; a reading that gives no reply keeps nothing. The link stays open.
     pub fn read<D: Dialer>(&mut self, alloc: Global, dialer: &mut D, method: Method) -> ReadEnd
         requires { has_link self.old.name (D.opened dialer.old) ≡ true }
         ensures reply { IsOver self.old method

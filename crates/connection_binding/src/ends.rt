@@ -1,5 +1,5 @@
-//! How the calls on a link end. Each failure carries the dialer's count of faults, which rose in that
-//! call, so that a report can name the fault.
+//! How the calls on a link end. Each failure carries the dialer's count of faults, which rose in
+//! that call, so that a report can name the fault.
 
 ghost use Rattle.std.specs.Prelude.{◌≡◌};
 ghost use Rattle.connection_binding.specs.Ends as spec;

@@ -1,10 +1,12 @@
-//! Free links: no token of a context went over them. Each carries one exchange and is spent behind it;
-//! since it can't be dropped, none is left open.
+//! Free links: no token of a context went over them. Each carries one exchange and is spent behind
+//! it; since it can't be dropped, none is left open.
 
 ghost use Rattle.std.specs.Prelude.{◌≡◌, ◌≢◌, ◌≤◌, ◌++◌, true, false};
 ghost use Rattle.link_trait.specs.Told.{grown};
-ghost use Rattle.link_trait.specs.Links.{has_link, without_link, IsUndialed, dialing, opening, Sends};
-ghost use Rattle.connection_binding.specs.Ends.{dialed_by, wrote_by, IsGiven, IsDialFault, IsSendFault, IsReadFault, IsNoReadFault};
+ghost use Rattle.link_trait.specs.Links.{has_link, without_link, IsUndialed, dialing, opening};
+ghost use Rattle.link_trait.specs.Links.{Sends};
+ghost use Rattle.connection_binding.specs.Ends.{dialed_by, wrote_by, IsGiven, IsDialFault};
+ghost use Rattle.connection_binding.specs.Ends.{IsSendFault, IsReadFault, IsNoReadFault};
 ghost use Rattle.connection_binding.specs.LinkStates.{new_link};
 ghost use Rattle.connection_binding.specs.Readings.{IsReplyRead};
 
@@ -18,7 +20,8 @@ use spaces::{Method, Origin};
 use std::alloc::Global;
 use std::marker::Model;
 
-/// An open link over which no token went. Contracts see it as its name. It is not dropped, but spent.
+/// An open link over which no token went. Contracts see it as its name. It is not dropped, but
+/// spent.
 #[derive(Debug)]
 pub struct FreeLink {
     name: LinkName,
@@ -33,20 +36,22 @@ impl Model for FreeLink {
 }
 
 impl FreeLink {
-    /// Dials the origin, and gives the link its name. No link of this name may be open, and none may
-    /// have been dialed before, where the dialer tells its dials.
+    /// Dials the origin, and gives the link its name. No link of this name may be open, and none
+    /// may have been dialed before, where the dialer tells its dials.
     pub fn dial<D: Dialer>(dialer: &mut D, name: LinkName, to: &Origin) -> DialEnd
         requires closed { has_link name (D.opened dialer.old) ≡ false }
         requires fresh { IsUndialed name (D.dials dialer.old) }
         ensures link { IsGiven result name }
         ensures dials { D.dials dialer.new
             ≡ grown (D.dials dialer.old) (dialing (dialed_by result) name to.now) }
-        ensures opened { D.opened dialer.new ≡ D.opened dialer.old ++ opening (dialed_by result) name }
+        ensures opened { D.opened dialer.new
+            ≡ D.opened dialer.old ++ opening (dialed_by result) name }
         ensures traffic { D.traffic dialer.new ≡ D.traffic dialer.old }
         ensures streams { D.streams dialer.new ≡ D.streams dialer.old }
         ensures later { D.faults dialer.old ≤ D.faults dialer.new }
         ensures fault { IsDialFault D.sticks (D.faults dialer.old) (D.faults dialer.new) result }
-        ensures quiet { D.quiet dialer.old → D.quiet dialer.new × (dialed_by result ≢ Dialed.Failed) }
+        ensures quiet { D.quiet dialer.old
+            → D.quiet dialer.new × (dialed_by result ≢ Dialed.Failed) }
     {
         match dialer.dial(name, to) {
             Dialed::Link => DialEnd::Link(FreeLink { name }),
@@ -64,8 +69,8 @@ impl FreeLink {
         self.name
     }
 
-    /// Writes a head. After a failure or want of memory a front of it was written, or nothing; the link
-    /// stays open.
+    /// Writes a head. After a failure or want of memory a front of it was written, or nothing; the
+    /// link stays open.
     pub fn send<D: Dialer>(&mut self, dialer: &mut D, head: &[u8]) -> SendEnd
         requires { has_link self.old (D.opened dialer.old) ≡ true }
         ensures link { self.new ≡ self.old }
@@ -102,8 +107,8 @@ impl FreeLink {
         (BoundLink::new(name), end)
     }
 
-    /// Reads the reply to a request of that method, piece by piece, until the bytes show it or a fault.
-    /// Bytes that came behind the reply in the same piece are dropped. The link stays open.
+    /// Reads the reply to a request of that method, piece by piece, until the bytes show it or a
+    /// fault. Bytes that came behind the reply in the same piece are dropped. The link stays open.
     pub fn read<D: Dialer>(&mut self, alloc: Global, dialer: &mut D, method: Method) -> ReadEnd
         requires { has_link self.old (D.opened dialer.old) ≡ true }
         ensures link { self.new ≡ self.old }

@@ -17,16 +17,18 @@ ghost use Rattle.connection_binding.specs.Readings.{IsReplyRead, Shows};
 /// All that a dialer tells of the link shows the answer; and where it is known what the peer sends,
 /// its whole stream shows the reply or the fault, however much of it was read.
 pub fn new_links()
-    ensures told { (link : LinkName) (method : Method) (streams : Option (LinkName → List ℕ))
-        (old new : List Traffic) (end : ReadEnd) → read_on link old ≡ record { bytes = []; ended = false }
+    ensures told { (link : LinkName) (method : Method)
+        (streams : Option (LinkName → List ℕ)) (old new : List Traffic) (end : ReadEnd)
+        → read_on link old ≡ record { bytes = []; ended = false }
         → IsReplyRead link method streams (Some old) (Some new) end
         → (left : List ℕ) × Shows (new_link link) method (read_on link new) end left }
     ensures reply_sent { (link : LinkName) (method : Method) (streams : LinkName → List ℕ)
         (old : List Traffic) (new : Option (List Traffic)) (r : Reply) → heard_on link old ≡ []
         → IsReplyRead link method (Some streams) (Some old) new (Whole r)
         → (n : ℕ) × (reply method (streams link) true ≡ Ok (Some (r, n))) }
-    ensures fault_sent { (link : LinkName) (method : Method) (streams : LinkName → List ℕ)
-        (old : List Traffic) (new : Option (List Traffic)) (fault : WireFault) → heard_on link old ≡ []
+    ensures fault_sent { (link : LinkName) (method : Method) (streams : LinkName
+        → List ℕ) (old : List Traffic) (new : Option (List Traffic)) (fault : WireFault)
+        → heard_on link old ≡ []
         → IsReplyRead link method (Some streams) (Some old) new (Broken fault)
         → reply method (streams link) true ≡ Err fault }
 {}

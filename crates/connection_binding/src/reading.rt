@@ -1,8 +1,9 @@
 //! The reading of one reply: what the window keeps is fed to the reader of replies, and then what
-//! each read gives, so that no more is read than what decides. What is behind the reply stays in the
-//! window.
+//! each read gives, so that no more is read than what decides. What is behind the reply stays in
+//! the window.
 
-ghost use Rattle.std.specs.Prelude.{◌≡◌, ◌≤◌, ◌==◌, ◌&&◌, ◌++◌, [], ℕ, Bool, true, false, length, drop, List, IfSome};
+ghost use Rattle.std.specs.Prelude.{◌≡◌, ◌≤◌, ◌==◌, ◌&&◌, ◌++◌, [], ℕ, Bool, true, false, length};
+ghost use Rattle.std.specs.Prelude.{drop, List, IfSome};
 ghost use Rattle.std.specs.declared.option.Option.{Option};
 ghost use Rattle.spaces.specs.declared.roster.Method.{Method};
 ghost use Rattle.link_trait.specs.declared.links.LinkName.{LinkName};
@@ -12,7 +13,9 @@ ghost use Rattle.connection_binding.specs.Ends.{IsReadFault, IsNoReadFault};
 ghost use Rattle.connection_binding.specs.LinkStates.{LinkState};
 ghost use Rattle.wire_head.specs.Feeding.{IsFed};
 ghost use Rattle.wire_head.specs.Replies.{reply};
-ghost use Rattle.connection_binding.specs.Readings.{IsOver, IsShownAtEnd, IsUndecided, IsPieceOf, IsFedAnswer, piece_of, IsPieceFault, IsNoPieceFault};
+ghost use Rattle.connection_binding.specs.Readings.{IsOver, IsShownAtEnd, IsUndecided, IsPieceOf};
+ghost use Rattle.connection_binding.specs.Readings.{IsFedAnswer, piece_of, IsPieceFault};
+ghost use Rattle.connection_binding.specs.Readings.{IsNoPieceFault};
 
 use crate::ends::ReadEnd;
 use crate::window::Window;
@@ -21,8 +24,8 @@ use spaces::Method;
 use std::alloc::Global;
 use wire_head::{At, Fed, ReplyReader};
 
-/// Each read gives a byte at least, and a reply is decided by its 65,536 bytes of heads, its 1,048,576
-/// bytes of body and the byte behind them at the latest.
+/// Each read gives a byte at least, and a reply is decided by its 65,536 bytes of heads, its
+/// 1,048,576 bytes of body and the byte behind them at the latest.
 const MOST_READS: usize = 1_114_113;
 
 /// What more bytes did to the reading of a reply.
@@ -36,8 +39,8 @@ pub(crate) enum Piece {
     Over(ReadEnd),
 }
 
-/// What the reader answers to one more piece, where that is an end of the reading, and how many bytes
-/// of the piece are taken: those of the reply, or all where it shows none.
+/// What the reader answers to one more piece, where that is an end of the reading, and how many
+/// bytes of the piece are taken: those of the reply, or all where it shows none.
 fn answered(reader: &mut ReplyReader, piece: &[u8]) -> (Option<ReadEnd>, usize)
     ensures answer { (method : Method) (text : List ℕ) → IsFed reader.old method text
         → IsFedAnswer (reply method (text ++ piece.now) false) (text ++ piece.now)

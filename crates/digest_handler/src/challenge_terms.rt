@@ -1,5 +1,5 @@
-//! The terms of a Digest challenge, or the first reason to pass it over: a browser sends no credentials
-//! that it can't compute, and takes the next challenge instead.
+//! The terms of a Digest challenge, or the first reason to pass it over: a browser sends no
+//! credentials that it can't compute, and takes the next challenge instead.
 
 ghost use Rattle.std.specs.Prelude.{◌≡◌, codes, IfOk, [], unwrap_or};
 ghost use Rattle.std.specs.Option.{option_copied};
@@ -146,9 +146,10 @@ fn terms_with(
     })
 }
 
-/// The terms that a Digest challenge asks for (RFC 7616 section 3.3), or the first reason to pass it
-/// over. Without `algorithm` it is MD5. A `qop` that names nothing counts as missing, as RFC 2617 has
-/// it; `realm` may be missing and is then empty. A `userhash` other than `true` counts for none.
+/// The terms that a Digest challenge asks for (RFC 7616 section 3.3), or the first reason to pass
+/// it over. Without `algorithm` it is MD5. A `qop` that names nothing counts as missing, as RFC
+/// 2617 has it; `realm` may be missing and is then empty. A `userhash` other than `true` counts for
+/// none.
 pub fn terms_of(alloc: Global, challenge: &Challenge) -> Result<TermsRead, Passed>
     requires { challenge.now.scheme ≡ codes "digest" }
     ensures { GivesBy Passed.NoMemory (λ read. read) result (spec.terms_read challenge.now) }

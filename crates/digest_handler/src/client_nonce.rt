@@ -1,5 +1,5 @@
-//! The client's nonce. It is made of the run's seed and of what it is for, so that no two heads of a
-//! run have the same and no caller draws one.
+//! The client's nonce. It is made of the run's seed and of what it is for, so that no two heads of
+//! a run have the same and no caller draws one.
 
 ghost use Rattle.std.specs.Prelude.{◌≡◌};
 ghost use Rattle.digest_handler.specs.ClientNonces.{client_nonce, target_byte};

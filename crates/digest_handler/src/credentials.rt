@@ -49,7 +49,8 @@ fn push_named(out: &mut Bytes, name: &[u8], value: &[u8]) -> Result<(), NoMemory
 
 /// H of user, colon, realm (RFC 7616 section 3.4.4).
 fn hashed_user(alloc: Global, terms: &Terms, user: &[u8]) -> Result<Bytes, NoMemory>
-    ensures { IfOk result (λ text. text ≡ spec.hex_hash terms.now.algorithm (user.now ++ 58 ∷ terms.now.realm)) }
+    ensures { IfOk result (λ text. text
+        ≡ spec.hex_hash terms.now.algorithm (user.now ++ 58 ∷ terms.now.realm)) }
 {
     let mut text = Bytes::from_slice(alloc, user)?;
     text.extend_from_slice(b":")?;
@@ -59,7 +60,8 @@ fn hashed_user(alloc: Global, terms: &Terms, user: &[u8]) -> Result<Bytes, NoMem
 
 /// Appends the user name, hashed where the terms ask for that.
 fn push_user(alloc: Global, out: &mut Bytes, terms: &Terms, user: &[u8]) -> Result<(), NoMemory>
-    ensures { OnOk result (out.new ≡ out.old ++ spec.named (codes "username") (spec.sent_user terms.now user.now)) }
+    ensures { OnOk result (out.new
+        ≡ out.old ++ spec.named (codes "username") (spec.sent_user terms.now user.now)) }
 {
     if !terms.userhash {
         return push_named(out, b"username", user);
@@ -98,7 +100,8 @@ fn algorithm_name(algorithm: Algorithm) -> &'static [u8]
 }
 
 fn push_said(out: &mut Bytes, algorithm: Algorithm) -> Result<(), NoMemory>
-    ensures { OnOk result (out.new ≡ out.old ++ (codes ", algorithm=" ++ spec.algorithm_name algorithm)) }
+    ensures { OnOk result (out.new
+        ≡ out.old ++ (codes ", algorithm=" ++ spec.algorithm_name algorithm)) }
 {
     out.extend_from_slice(b", algorithm=")?;
     out.extend_from_slice(algorithm_name(algorithm))?;
@@ -172,7 +175,8 @@ fn last_text(
     count: u32,
     cnonce: &[u8],
 ) -> Result<Bytes, NoMemory>
-    ensures { IfOk result (λ text. text ≡ spec.last_text terms.now.qop terms.now.nonce a1.now a2.now count cnonce.now) }
+    ensures { IfOk result (λ text. text
+        ≡ spec.last_text terms.now.qop terms.now.nonce a1.now a2.now count cnonce.now) }
 {
     match terms.qop {
         Qop::Missing => with_colons(alloc, a1, terms.nonce.as_slice(), a2),
@@ -208,7 +212,8 @@ fn response_of(
     count: u32,
     cnonce: &[u8],
 ) -> Result<Bytes, NoMemory>
-    ensures { IfOk result (λ text. text ≡ spec.response terms.now identity.now method uri.now count cnonce.now) }
+    ensures { IfOk result (λ text. text
+        ≡ spec.response terms.now identity.now method uri.now count cnonce.now) }
 {
     let algorithm = terms.algorithm;
     let login = with_colons(
@@ -225,9 +230,10 @@ fn response_of(
 }
 
 /// The value of `Authorization` or `Proxy-Authorization` that answers a Digest challenge of these
-/// terms (RFC 7616 section 3.4). `uri` is the request target as it is sent. The count, which is sent
-/// in eight digits, and the client's nonce play no part where the terms have no qop. The user name is
-/// sent hashed where the terms have `userhash` (section 3.4.4); the response is made of the one given.
+/// terms (RFC 7616 section 3.4). `uri` is the request target as it is sent. The count, which is
+/// sent in eight digits, and the client's nonce play no part where the terms have no qop. The user
+/// name is sent hashed where the terms have `userhash` (section 3.4.4); the response is made of the
+/// one given.
 pub fn respond(
     alloc: Global,
     terms: &Terms,
@@ -237,7 +243,8 @@ pub fn respond(
     count: u32,
     cnonce: &[u8],
 ) -> Result<Bytes, NoMemory>
-    ensures { IfOk result (λ text. text ≡ spec.digest_credentials terms.now identity.now method uri.now count cnonce.now) }
+    ensures { IfOk result (λ text. text
+        ≡ spec.digest_credentials terms.now identity.now method uri.now count cnonce.now) }
 {
     let response = response_of(alloc, terms, identity, method, uri, count, cnonce)?;
     let mut text = Bytes::from_slice(alloc, b"Digest ")?;

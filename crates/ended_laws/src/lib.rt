@@ -1,5 +1,6 @@
 //! What holds in every legal history in which each request that began has its end: nothing that was
-//! open is left so. It has no code: what it says is proved of the definitions, so it holds of every book.
+//! open is left so. It has no code: what it says is proved of the definitions, so it holds of every
+//! book.
 #![tactic(auto)]
 
 ghost use Rattle.std.specs.Prelude.{List};

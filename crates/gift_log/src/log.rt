@@ -1,7 +1,8 @@
-//! The log: the givings of a journal, each with the number of the giving of its space before it. All
-//! room is taken beforehand, so that an entry is told without memory.
+//! The log: the givings of a journal, each with the number of the giving of its space before it.
+//! All room is taken beforehand, so that an entry is told without memory.
 
-ghost use Rattle.std.specs.Prelude.{◌≡◌, ◌<◌, ◌≤◌, ◌++◌, ◌∷◌, [], IfOk, OnOk, IfSome, length, map, option_copied, option_to_list};
+ghost use Rattle.std.specs.Prelude.{◌≡◌, ◌<◌, ◌≤◌, ◌++◌, ◌∷◌, [], IfOk, OnOk, IfSome, length, map};
+ghost use Rattle.std.specs.Prelude.{option_copied, option_to_list};
 ghost use Rattle.auth_events.specs.Identities as Identities;
 ghost use Rattle.gift_log.specs.Gifts.{given_by, identity_at, identity_found, source_found};
 ghost use Rattle.gift_log.specs.Links.{AreLinked};
@@ -35,7 +36,8 @@ struct Link {
     before: u32,
 }
 
-/// The givings of a journal. Seen as the room for givings, that for spaces, and the givings in order.
+/// The givings of a journal. Seen as the room for givings, that for spaces, and the givings in
+/// order.
 #[derive(Drop)]
 pub struct GiftLog {
     room: u32,

@@ -1,5 +1,5 @@
-//! Which identity a request is given: the sources in their one fixed order, so that whoever decides,
-//! by an index or by a scan, decides alike.
+//! Which identity a request is given: the sources in their one fixed order, so that whoever
+//! decides, by an index or by a scan, decides alike.
 #![tactic(auto)]
 
 ghost use Rattle.std.specs.Prelude.{◌≡◌, find, Some};

@@ -1,5 +1,5 @@
-//! The rule of a run, tried on small runs: honest ones keep it, and each way to lie or to be lazy is
-//! refused.
+//! The rule of a run, tried on small runs: honest ones keep it, and each way to lie or to be lazy
+//! is refused.
 #![tactic(auto)]
 
 mod honest;

@@ -2,10 +2,18 @@
 
 ghost use Rattle.run_rule.specs.Runs.{IsRunBy, IsLoneRun};
 ghost use Rattle.liars.specs.Session.{outside, seed, one_request, two_requests};
-ghost use Rattle.liars.specs.Lies.{nobody_asked, not_listened, another_identity, never_asked, asked_twice, another_password, no_identity, to_a_proxy, to_another_host, over_the_first_link, reply_of_another_link, broken_reply, dial_fault, read_fault, too_early, given_up, no_note, entry_twice, untraced_call, two_as_one, another_gift, another_partitions_gift, request_left_out, unused_text, space_twice, text_again, another_seed};
-ghost use Rattle.liars.specs.Drawn.{drawn_roster, drawn_outside, drawn_twice, out_of_turn, passed_over, future_epoch, never_drawn, nonce_twice};
+ghost use Rattle.liars.specs.Lies.{nobody_asked, not_listened, another_identity, never_asked};
+ghost use Rattle.liars.specs.Lies.{asked_twice, another_password, no_identity, to_a_proxy};
+ghost use Rattle.liars.specs.Lies.{to_another_host, over_the_first_link, reply_of_another_link};
+ghost use Rattle.liars.specs.Lies.{broken_reply, dial_fault, read_fault, too_early, given_up};
+ghost use Rattle.liars.specs.Lies.{no_note, entry_twice, untraced_call, two_as_one, another_gift};
+ghost use Rattle.liars.specs.Lies.{another_partitions_gift, request_left_out, unused_text};
+ghost use Rattle.liars.specs.Lies.{space_twice, text_again, another_seed};
+ghost use Rattle.liars.specs.Drawn.{drawn_roster, drawn_outside, drawn_twice, out_of_turn};
+ghost use Rattle.liars.specs.Drawn.{passed_over, future_epoch, never_drawn, nonce_twice};
 ghost use Rattle.liars.specs.Shared.{shared_roster, cancelled_for_one, not_taken, asked_again};
-ghost use Rattle.liars.specs.Proxied.{proxied_roster, proxied_outside, proxys_to_the_server, servers_to_the_proxy};
+ghost use Rattle.liars.specs.Proxied.{proxied_roster, proxied_outside, proxys_to_the_server};
+ghost use Rattle.liars.specs.Proxied.{servers_to_the_proxy};
 ghost use Rattle.liars.specs.Stale.{stale_outside, asked_anew};
 
 /// What a prompter was asked, and what it answered.
@@ -25,8 +33,10 @@ pub fn heads()
     ensures to_a_proxy { ¬ (IsLoneRun one_request outside seed to_a_proxy) }
     ensures to_another_host { ¬ (IsLoneRun one_request outside seed to_another_host) }
     ensures over_the_first_link { ¬ (IsLoneRun one_request outside seed over_the_first_link) }
-    ensures proxys_to_the_server { ¬ (IsLoneRun proxied_roster proxied_outside seed proxys_to_the_server) }
-    ensures servers_to_the_proxy { ¬ (IsLoneRun proxied_roster proxied_outside seed servers_to_the_proxy) }
+    ensures proxys_to_the_server { ¬
+        (IsLoneRun proxied_roster proxied_outside seed proxys_to_the_server) }
+    ensures servers_to_the_proxy { ¬
+        (IsLoneRun proxied_roster proxied_outside seed servers_to_the_proxy) }
 {}
 
 /// What links show, and whether they fail.
@@ -50,7 +60,8 @@ pub fn journals()
     ensures untraced_call { ¬ (IsLoneRun one_request outside seed untraced_call) }
     ensures two_as_one { ¬ (IsLoneRun two_requests outside seed two_as_one) }
     ensures another_gift { ¬ (IsLoneRun one_request outside seed another_gift) }
-    ensures another_partitions_gift { ¬ (IsLoneRun two_requests outside seed another_partitions_gift) }
+    ensures another_partitions_gift { ¬
+        (IsLoneRun two_requests outside seed another_partitions_gift) }
     ensures request_left_out { ¬ (IsLoneRun two_requests outside seed request_left_out) }
 {}
 

@@ -1,6 +1,7 @@
 //! The answers of a session: what prompts are answered with, space by space.
 
-ghost use Rattle.std.specs.Prelude.{◌≡◌, [], ◌∷◌, ◌++◌, ◌<◌, length, slice_get, IfOk, IfErr, OnOk, OnErr, OnSome};
+ghost use Rattle.std.specs.Prelude.{◌≡◌, [], ◌∷◌, ◌++◌, ◌<◌, length, slice_get, IfOk, IfErr, OnOk};
+ghost use Rattle.std.specs.Prelude.{OnErr, OnSome};
 ghost use Rattle.std.specs.Option.{option_copied};
 ghost use Rattle.link_trait.specs.Repeated.{flat, times};
 
@@ -111,8 +112,8 @@ impl Answers {
         self.push_times(answer, 1)
     }
 
-    /// Adds an answer at the end, so many times; it is kept once. An `Err` changes nothing and hands
-    /// the answer back.
+    /// Adds an answer at the end, so many times; it is kept once. An `Err` changes nothing and
+    /// hands the answer back.
     pub fn push_times(
         &mut self,
         answer: (Space, Option<Identity>),

@@ -25,7 +25,8 @@ impl Model for Failures {
 
     ghost Value = { Counted };
 
-    ghost view = { λ it. record { schedule = record { made = it.made; listed = it.listed }; faults = it.faults } };
+    ghost view = { λ it.
+        record { schedule = record { made = it.made; listed = it.listed }; faults = it.faults } };
 
     ghost invariant = { λ it. it.faults ≤ it.made };
 }

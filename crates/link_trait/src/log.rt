@@ -2,7 +2,8 @@
 //! that a read needn't go over what was read before. A dialer of one's own keeps one of these and
 //! takes the three lists that `Dialer` speaks of from it.
 
-ghost use Rattle.std.specs.Prelude.{◌≡◌, ◌+◌, ◌^◌, ◌<◌, [], ◌∷◌, ◌++◌, true, false, map, length, OnOk, OnErr};
+ghost use Rattle.std.specs.Prelude.{◌≡◌, ◌+◌, ◌^◌, ◌<◌, [], ◌∷◌, ◌++◌, true, false, map, length};
+ghost use Rattle.std.specs.Prelude.{OnOk, OnErr};
 ghost use Rattle.link_trait.specs.declared.dialer.Traffic.TheVariants.{Sent, Received, Ended};
 ghost use Rattle.link_trait.specs.Links.{has_link, has_dial, has_ended, without_link, heard_on};
 ghost use Rattle.link_trait.specs.Recorded.{IsKept, place_in, moved, closed};
@@ -37,9 +38,11 @@ impl Model for LinkLog {
 
     ghost Value = { LogState };
 
-    ghost view = { λ it. record { dials = it.dials; traffic = it.traffic; opened = names_of it.«open».items } };
+    ghost view = { λ it.
+        record { dials = it.dials; traffic = it.traffic; opened = names_of it.«open».items } };
 
-    ghost invariant = { λ it. (are_dialed it.traffic it.dials ≡ true) × (are_placed it.«open».items it.dials it.traffic ≡ true)
+    ghost invariant = { λ it. (are_dialed it.traffic it.dials ≡ true)
+        × (are_placed it.«open».items it.dials it.traffic ≡ true)
         × (are_ended_last it.traffic ≡ true) };
 }
 
@@ -100,7 +103,12 @@ impl LinkLog {
     /// The link was dialed, and is open.
     pub fn dialed(&mut self, name: LinkName, to: &Origin) -> Result<(), NoMemory>
         requires { has_dial name self.old.dials ≡ false }
-        ensures ok { OnOk result (self.new ≡ record { dials = self.old.dials ++ record { link = name; to = to.now } ∷ []; traffic = self.old.traffic; opened = self.old.opened ++ name ∷ [] }) }
+        ensures ok { OnOk result (self.new
+            ≡ record {
+              dials = self.old.dials ++ record { link = name; to = to.now } ∷ [];
+              traffic = self.old.traffic;
+              opened = self.old.opened ++ name ∷ [];
+            }) }
         ensures err { OnErr result (self.new ≡ self.old) }
         ensures kept { IsKept self.new }
     {
@@ -114,7 +122,12 @@ impl LinkLog {
     /// The bytes were written to the link.
     pub fn sent(&mut self, name: LinkName, bytes: &[u8]) -> Result<(), NoMemory>
         requires { has_link name self.old.opened ≡ true }
-        ensures ok { OnOk result (self.new ≡ record { dials = self.old.dials; traffic = self.old.traffic ++ Sent name bytes.now ∷ []; opened = self.old.opened }) }
+        ensures ok { OnOk result (self.new
+            ≡ record {
+              dials = self.old.dials;
+              traffic = self.old.traffic ++ Sent name bytes.now ∷ [];
+              opened = self.old.opened;
+            }) }
         ensures err { OnErr result (self.new ≡ self.old) }
         ensures kept { IsKept self.new }
     {
@@ -128,7 +141,13 @@ impl LinkLog {
         requires open { has_link name self.old.opened ≡ true }
         requires more { has_ended name self.old.traffic ≡ false }
         requires fit { length (heard_on name self.old.traffic) + length bytes.now < 2 ^ 64 }
-        ensures ok { OnOk result (self.new ≡ record { dials = self.old.dials; traffic = self.old.traffic ++ Received name bytes.now ∷ []; opened = self.old.opened }) }
+        ensures ok { OnOk result (self.new
+            ≡ record {
+              dials = self.old.dials;
+              traffic = self.old.traffic
+                  ++ Received name bytes.now ∷ [];
+              opened = self.old.opened;
+            }) }
         ensures err { OnErr result (self.new ≡ self.old) }
         ensures kept { IsKept self.new }
     {
@@ -142,7 +161,12 @@ impl LinkLog {
     /// The link's end was read.
     pub fn ended(&mut self, name: LinkName) -> Result<(), NoMemory>
         requires { has_link name self.old.opened ≡ true }
-        ensures ok { OnOk result (self.new ≡ record { dials = self.old.dials; traffic = self.old.traffic ++ Ended name ∷ []; opened = self.old.opened }) }
+        ensures ok { OnOk result (self.new
+            ≡ record {
+              dials = self.old.dials;
+              traffic = self.old.traffic ++ Ended name ∷ [];
+              opened = self.old.opened;
+            }) }
         ensures err { OnErr result (self.new ≡ self.old) }
         ensures kept { IsKept self.new }
     {
@@ -152,7 +176,11 @@ impl LinkLog {
 
     /// The link is closed.
     pub fn closed(&mut self, name: LinkName)
-        ensures log { self.new ≡ record { dials = self.old.dials; traffic = self.old.traffic; opened = without_link name self.old.opened } }
+        ensures log { self.new ≡ record {
+          dials = self.old.dials;
+          traffic = self.old.traffic;
+          opened = without_link name self.old.opened;
+        } }
         ensures kept { IsKept self.new }
     {
         close_link(&mut self.open, name);

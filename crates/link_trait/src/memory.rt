@@ -45,7 +45,8 @@ impl MemSource {
     pub fn new(bytes: Bytes, failing: Calls) -> MemSource
         ensures left { ⟦<MemSource as Source>⟧.left result ≡ Some bytes }
         ensures faults { ⟦<MemSource as Source>⟧.faults result ≡ 0 }
-        ensures schedule { ⟦<MemSource as Source>⟧.schedule result ≡ Some (record { made = 0; listed = failing }) }
+        ensures schedule { ⟦<MemSource as Source>⟧.schedule result
+            ≡ Some (record { made = 0; listed = failing }) }
         ensures quiet { failing ≡ [] → ⟦<MemSource as Source>⟧.quiet result }
     {
         MemSource {
@@ -114,7 +115,8 @@ impl MemSink {
         ensures held { ⟦<MemSink as Sink>⟧.held result ≡ Some [] }
         ensures most { ⟦<MemSink as Sink>⟧.most result ≡ Some most }
         ensures faults { ⟦<MemSink as Sink>⟧.faults result ≡ 0 }
-        ensures schedule { ⟦<MemSink as Sink>⟧.schedule result ≡ Some (record { made = 0; listed = failing }) }
+        ensures schedule { ⟦<MemSink as Sink>⟧.schedule result
+            ≡ Some (record { made = 0; listed = failing }) }
         ensures quiet { failing ≡ [] → ⟦<MemSink as Sink>⟧.quiet result }
     {
         MemSink {

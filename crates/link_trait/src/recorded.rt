@@ -2,7 +2,8 @@
 //! written and read is kept.
 
 ghost use Rattle.std.specs.Prelude.{◌≡◌, ◌≢◌, ◌+◌, ◌<◌, ◌^◌, [], true, false, drop, length};
-ghost use Rattle.link_trait.specs.Links.{same_link, stream_in, has_link, has_ended, heard_on, are_dialed, are_ended_last};
+ghost use Rattle.link_trait.specs.Links.{same_link, stream_in, has_link, has_ended, heard_on};
+ghost use Rattle.link_trait.specs.Links.{are_dialed, are_ended_last};
 ghost use Rattle.link_trait.specs.Recorded.{are_read_out};
 
 use crate::calls::{Calls, Failures};
@@ -58,7 +59,8 @@ impl RecordedDialer {
         ensures traffic { ⟦<RecordedDialer as Dialer>⟧.traffic result ≡ Some [] }
         ensures opened { ⟦<RecordedDialer as Dialer>⟧.opened result ≡ [] }
         ensures faults { ⟦<RecordedDialer as Dialer>⟧.faults result ≡ 0 }
-        ensures schedule { ⟦<RecordedDialer as Dialer>⟧.schedule result ≡ Some (record { made = 0; listed = failing }) }
+        ensures schedule { ⟦<RecordedDialer as Dialer>⟧.schedule result
+            ≡ Some (record { made = 0; listed = failing }) }
         ensures quiet { failing ≡ [] → ⟦<RecordedDialer as Dialer>⟧.quiet result }
     {
         RecordedDialer {
@@ -71,7 +73,8 @@ impl RecordedDialer {
     // What the peer of the open link has still to send.
     fn rest(&self, name: LinkName) -> &[u8]
         requires { has_link name self.now.log.opened ≡ true }
-        ensures rest { result.now ≡ drop (length (heard_on name self.now.log.traffic)) (stream_in self.now.links name) }
+        ensures rest { result.now
+            ≡ drop (length (heard_on name self.now.log.traffic)) (stream_in self.now.links name) }
         ensures fit { length (heard_on name self.now.log.traffic) + length result.now < 2 ^ 64 }
         ensures more { result.now ≢ [] → has_ended name self.now.log.traffic ≡ false }
     {

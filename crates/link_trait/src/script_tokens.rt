@@ -1,6 +1,7 @@
 //! A provider of tokens in memory, which takes the steps that a session lists.
 
-ghost use Rattle.std.specs.Prelude.{◌≡◌, ◌⊎◌, ◌<◌, ◌≤◌, [], ◌∷◌, ◌++◌, true, false, option_copied, unwrap_or, IfOk, OnOk, OnErr};
+ghost use Rattle.std.specs.Prelude.{◌≡◌, ◌⊎◌, ◌<◌, ◌≤◌, [], ◌∷◌, ◌++◌, true, false, option_copied};
+ghost use Rattle.std.specs.Prelude.{unwrap_or, IfOk, OnOk, OnErr};
 ghost use Rattle.link_trait.specs.declared.steps.Step.TheVariants.{NoMechanism, Failed};
 ghost use Rattle.link_trait.specs.declared.tokens.TokenCall.TheVariants.{Started, WentOn};
 ghost use Rattle.link_trait.specs.Tokens.{is_answered, step_at, taken_by, taking, are_quiet};
@@ -31,7 +32,8 @@ impl Model for ScriptTokens {
 
     ghost Value = { TokensState };
 
-    ghost view = { λ it. record { script = it.script; told = it.told; taken = it.taken; faults = it.faults } };
+    ghost view = { λ it.
+        record { script = it.script; told = it.told; taken = it.taken; faults = it.faults } };
 
     ghost invariant = { λ it. it.faults ≤ length it.taken };
 }
@@ -78,7 +80,8 @@ impl ScriptTokens {
 
     // The request's next step.
     fn next_step(&self, request: u32) -> Result<Step, NoMemory>
-        ensures { IfOk result (λ step. step ≡ step_at self.now.script request (taken_by request self.now.taken)) }
+        ensures { IfOk result (λ step. step
+            ≡ step_at self.now.script request (taken_by request self.now.taken)) }
     {
         let place = self.taken.by(request);
         let step = match numbered(&self.script, request) {
@@ -109,7 +112,13 @@ impl ScriptTokens {
 
     // Tells an answered call.
     fn tell(&mut self, request: u32, call: TokenCall) -> Result<(), NoMemory>
-        ensures ok { OnOk result (self.new ≡ record { script = self.old.script; told = self.old.told ++ call ∷ []; taken = self.old.taken ++ request ∷ []; faults = self.old.faults }) }
+        ensures ok { OnOk result (self.new
+            ≡ record {
+              script = self.old.script;
+              told = self.old.told ++ call ∷ [];
+              taken = self.old.taken ++ request ∷ [];
+              faults = self.old.faults;
+            }) }
         ensures err { OnErr result (self.new ≡ self.old) }
     {
         let len = self.told.len();
@@ -130,7 +139,14 @@ impl ScriptTokens {
         identity: Option<&Identity>,
         step: &Step,
     ) -> Result<(), NoMemory>
-        ensures ok { OnOk result (self.new ≡ record { script = self.old.script; told = self.old.told ++ Started request spn.now (option_copied identity.entry) step.now ∷ []; taken = self.old.taken ++ request ∷ []; faults = self.old.faults }) }
+        ensures ok { OnOk result (self.new
+            ≡ record {
+              script = self.old.script;
+              told = self.old.told
+                  ++ Started request spn.now (option_copied identity.entry) step.now ∷ [];
+              taken = self.old.taken ++ request ∷ [];
+              faults = self.old.faults;
+            }) }
         ensures err { OnErr result (self.new ≡ self.old) }
     {
         let call = TokenCall::Started {
@@ -143,7 +159,13 @@ impl ScriptTokens {
     }
 
     fn tell_onward(&mut self, request: u32, token: &[u8], step: &Step) -> Result<(), NoMemory>
-        ensures ok { OnOk result (self.new ≡ record { script = self.old.script; told = self.old.told ++ WentOn request token.now step.now ∷ []; taken = self.old.taken ++ request ∷ []; faults = self.old.faults }) }
+        ensures ok { OnOk result (self.new
+            ≡ record {
+              script = self.old.script;
+              told = self.old.told ++ WentOn request token.now step.now ∷ [];
+              taken = self.old.taken ++ request ∷ [];
+              faults = self.old.faults;
+            }) }
         ensures err { OnErr result (self.new ≡ self.old) }
     {
         let call = TokenCall::WentOn {

@@ -32,7 +32,8 @@ impl ScriptPrompter {
 
     /// A prompter with a copy of the answers. It has answered nothing yet.
     pub fn new(alloc: Global, answers: &Answers) -> Result<ScriptPrompter, NoMemory>
-        ensures answers { IfOk result (λ it. ⟦<ScriptPrompter as Prompter>⟧.answers it ≡ Some (answer_in answers.now)) }
+        ensures answers { IfOk result (λ it. ⟦<ScriptPrompter as Prompter>⟧.answers it
+            ≡ Some (answer_in answers.now)) }
         ensures told { IfOk result (λ it. ⟦<ScriptPrompter as Prompter>⟧.told it ≡ Some []) }
         ensures faults { IfOk result (λ it. ⟦<ScriptPrompter as Prompter>⟧.faults it ≡ 0) }
         ensures quiet { IfOk result (λ it. ⟦<ScriptPrompter as Prompter>⟧.quiet it) }
@@ -114,11 +115,14 @@ impl FailingPrompter {
         answers: &Answers,
         failing: Calls,
     ) -> Result<FailingPrompter, NoMemory>
-        ensures answers { IfOk result (λ it. ⟦<FailingPrompter as Prompter>⟧.answers it ≡ Some (answer_in answers.now)) }
+        ensures answers { IfOk result (λ it. ⟦<FailingPrompter as Prompter>⟧.answers it
+            ≡ Some (answer_in answers.now)) }
         ensures told { IfOk result (λ it. ⟦<FailingPrompter as Prompter>⟧.told it ≡ Some []) }
         ensures faults { IfOk result (λ it. ⟦<FailingPrompter as Prompter>⟧.faults it ≡ 0) }
-        ensures schedule { IfOk result (λ it. ⟦<FailingPrompter as Prompter>⟧.schedule it ≡ Some (record { made = 0; listed = failing })) }
-        ensures quiet { failing ≡ [] → IfOk result (λ it. ⟦<FailingPrompter as Prompter>⟧.quiet it) }
+        ensures schedule { IfOk result (λ it. ⟦<FailingPrompter as Prompter>⟧.schedule it
+            ≡ Some (record { made = 0; listed = failing })) }
+        ensures quiet { failing ≡ []
+            → IfOk result (λ it. ⟦<FailingPrompter as Prompter>⟧.quiet it) }
     {
         Ok(FailingPrompter {
             script: ScriptPrompter::new(alloc, answers)?,

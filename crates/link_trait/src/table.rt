@@ -1,11 +1,13 @@
-//! A list of answers in which the answer to a space's prompt is found without going over the others:
-//! beside the list stands, for each space, where its answers are.
+//! A list of answers in which the answer to a space's prompt is found without going over the
+//! others: beside the list stands, for each space, where its answers are.
 
-ghost use Rattle.std.specs.Prelude.{◌≡◌, [], ◌∷◌, ◌++◌, ◌+◌, ◌<◌, ◌≤◌, length, take, IfOk, OnOk, option_copied};
+ghost use Rattle.std.specs.Prelude.{◌≡◌, [], ◌∷◌, ◌++◌, ◌+◌, ◌<◌, ◌≤◌, length, take, IfOk, OnOk};
+ghost use Rattle.std.specs.Prelude.{option_copied};
 ghost use Rattle.std.specs.List.Sorted.{IsNonDecreasingBy, IsPartitionPoint};
 ghost use Rattle.link_trait.specs.Prompts.{answer_in};
 ghost use Rattle.link_trait.specs.Repeated.{flat};
-ghost use Rattle.link_trait.specs.Index.{at_runs, end_of, nth_answer, runs_at, AreEnds, IsAdded, IsIndexOf};
+ghost use Rattle.link_trait.specs.Index.{at_runs, end_of, nth_answer, runs_at, AreEnds, IsAdded};
+ghost use Rattle.link_trait.specs.Index.{IsIndexOf};
 
 use crate::answers::{Repeated, copy_repeated};
 use crate::space_key::{SpaceKey, key_of};
@@ -15,7 +17,8 @@ use std::alloc::Global;
 use std::collections::BTreeMap;
 use std::marker::Model;
 
-/// Where a space's answer stands among all, and how many answers the space has up to its last repeat.
+/// Where a space's answer stands among all, and how many answers the space has up to its last
+/// repeat.
 #[derive(Clone, Copy)]
 pub(crate) struct Run {
     place: usize,
@@ -68,7 +71,8 @@ fn end_of(runs: &[Run]) -> usize
 
 // Adds the run of an answer that is given so many times.
 fn add_run(runs: &mut Items<Run>, place: usize, count: usize) -> Result<(), NoMemory>
-    ensures { OnOk result (runs.new ≡ runs.old ++ record { place = place; end = end_of runs.old + count } ∷ []) }
+    ensures { OnOk result (runs.new
+        ≡ runs.old ++ record { place = place; end = end_of runs.old + count } ∷ []) }
 {
     let Some(end) = end_of(runs.as_slice()).checked_add(count) else {
         return Err(NoMemory);
@@ -166,7 +170,8 @@ impl AnswerTable {
         space: &Space,
         ordinal: u32,
     ) -> Result<Option<&Identity>, NoMemory>
-        ensures { IfOk result (λ answer. option_copied answer ≡ answer_in self.now space.now ordinal) }
+        ensures { IfOk result (λ answer. option_copied answer
+            ≡ answer_in self.now space.now ordinal) }
     {
         let key = key_of(self.alloc, space)?;
         let runs = runs_at(&self.index, &key);

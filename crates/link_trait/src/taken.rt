@@ -1,7 +1,8 @@
-//! Which requests' calls took a step of a script. A request's place is kept beside the list, so that
-//! its next step is found without going over all calls before.
+//! Which requests' calls took a step of a script. A request's place is kept beside the list, so
+//! that its next step is found without going over all calls before.
 
-ghost use Rattle.std.specs.Prelude.{◌≡◌, [], ◌∷◌, ◌++◌, ◌<◌, ◌≤◌, ◌+◌, ◌^◌, ◌==◌, ℕ, length, vec_len, OnOk, OnErr, if◌then◌else◌};
+ghost use Rattle.std.specs.Prelude.{◌≡◌, [], ◌∷◌, ◌++◌, ◌<◌, ◌≤◌, ◌+◌, ◌^◌, ◌==◌, ℕ, length};
+ghost use Rattle.std.specs.Prelude.{vec_len, OnOk, OnErr, if◌then◌else◌};
 ghost use Rattle.std.proofs.Common.{get_or};
 ghost use Rattle.link_trait.specs.Tokens.{taken_by};
 
@@ -59,7 +60,8 @@ fn make_room(places: &mut Vec<usize>, request: u32) -> Result<(), NoMemory>
 fn count_call(places: &mut Vec<usize>, request: u32)
     requires room { request < vec_len places.old }
     requires fit { get_or places.old.items request 0 + 1 < 2 ^ 64 }
-    ensures { (n : ℕ) → get_or places.new.items n 0 ≡ get_or places.old.items n 0 + (if request == n then 1 else 0) }
+    ensures { (n : ℕ) → get_or places.new.items n 0
+        ≡ get_or places.old.items n 0 + (if request == n then 1 else 0) }
 {
     places[request as usize] += 1;
 }

@@ -12,9 +12,9 @@ use plain_book::PlainWords;
 use spaces::Roster;
 use std::alloc::Global;
 
-/// Serves all requests of the roster in order, each to its end before the next one begins, over a book
-/// and a dialer that have told nothing yet, where nothing fails. The traces are in the order of the
-/// requests. Want of memory may leave the later requests unserved.
+/// Serves all requests of the roster in order, each to its end before the next one begins, over a
+/// book and a dialer that have told nothing yet, where nothing fails. The traces are in the order
+/// of the requests. Want of memory may leave the later requests unserved.
 pub fn serve_all<B: Controller, D: Dialer, T: Tokens, P: Prompter>(
     alloc: Global,
     book: &mut B,

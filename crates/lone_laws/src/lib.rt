@@ -1,6 +1,6 @@
 //! Laws of one caller that serves the requests of a roster one behind the other: the book and the
-//! words are ready for each next request, a prompt of a request is that of the journal, and what the
-//! book told is in the end a run of the roster.
+//! words are ready for each next request, a prompt of a request is that of the journal, and what
+//! the book told is in the end a run of the roster.
 #![tactic(auto)]
 
 mod prompts;

@@ -1,5 +1,5 @@
-//! A number that a map has is looked at before it is believed: a thing may be noted with the number that
-//! it will have, and then get no name for want of memory.
+//! A number that a map has is looked at before it is believed: a thing may be noted with the number
+//! that it will have, and then get no name for want of memory.
 
 ghost use Rattle.std.specs.Prelude.{◌≡◌};
 ghost use Rattle.spaces.specs.Sites.{same_site, same_space};

@@ -1,7 +1,8 @@
 //! The maps. What is noted gets its name afterwards, so a map may have a number more than is named.
 
 ghost use Rattle.std.specs.Prelude.{◌≡◌, ℕ, IfOk, OnOk, None, Some};
-ghost use Rattle.auth_events.specs.Tables.{no_names, nonce_for, nonce_number, space_number, terms_number, with_space, with_terms};
+ghost use Rattle.auth_events.specs.Tables.{no_names, nonce_for, nonce_number, space_number};
+ghost use Rattle.auth_events.specs.Tables.{terms_number, with_space, with_terms};
 ghost use Rattle.name_index.specs.Found.{KnowsNames, first_of_site};
 
 use crate::checked::{nonce_checked, space_checked, terms_checked};
@@ -75,7 +76,8 @@ impl NameIndex {
         Ok(number.unwrap_or(names.nonces_len() + 1))
     }
 
-    /// The number that the nonce of the terms has, or the next one. It is 0 where the space has no name.
+    /// The number that the nonce of the terms has, or the next one. It is 0 where the space has no
+    /// name.
     pub fn nonce_for(&self, names: &Names, space: u32, terms: &Terms) -> Result<u32, NoMemory>
         requires { KnowsNames self.now names.now }
         ensures { IfOk result (λ nonce. nonce ≡ nonce_for names.now space terms.now) }
@@ -86,8 +88,8 @@ impl NameIndex {
         }
     }
 
-    /// Notes the next number for the space, which has none. It answers the number that the first space of
-    /// its site then has. The names that it knew it still knows, also after an `Err`.
+    /// Notes the next number for the space, which has none. It answers the number that the first
+    /// space of its site then has. The names that it knew it still knows, also after an `Err`.
     pub fn note_space(&mut self, names: &Names, space: &Space) -> Result<u32, NoMemory>
         requires knows { KnowsNames self.old names.now }
         requires new { space_number names.now space.now ≡ None }
@@ -102,8 +104,8 @@ impl NameIndex {
         Ok(first)
     }
 
-    /// Notes the next number for the space's terms, which have none, and the number of their nonce. The
-    /// names that it knew it still knows, also after an `Err`.
+    /// Notes the next number for the space's terms, which have none, and the number of their nonce.
+    /// The names that it knew it still knows, also after an `Err`.
     pub fn note_terms(
         &mut self,
         names: &Names,

@@ -1,4 +1,5 @@
-//! The numbers of named spaces, terms and nonces, and of the first space of a site, found without going over the names.
+//! The numbers of named spaces, terms and nonces, and of the first space of a site, found without
+//! going over the names.
 #![tactic(auto)]
 
 mod checked;

@@ -1,4 +1,5 @@
-//! Sites and nonces, noted with what has them: a site with its first space, a nonce with its first terms.
+//! Sites and nonces, noted with what has them: a site with its first space, a nonce with its first
+//! terms.
 
 ghost use Rattle.std.specs.Prelude.{◌≡◌, ◌++◌, ◌∷◌, [], IfOk, OnOk, Some};
 ghost use Rattle.auth_events.specs.Tables.{nonce_for, with_nonce};
@@ -13,8 +14,8 @@ use spaces::{Space, Terms};
 use std::alloc::Global;
 use std::collections::BTreeMap;
 
-/// Notes the next number for the space's site, where no space of it is named. It answers the number of
-/// the first space of the site. The sites that were known still are, also after an `Err`.
+/// Notes the next number for the space's site, where no space of it is named. It answers the number
+/// of the first space of the site. The sites that were known still are, also after an `Err`.
 pub(crate) fn note_site(
     alloc: Global,
     sites: &mut BTreeMap<SiteKey, u32>,
@@ -39,8 +40,8 @@ pub(crate) fn note_site(
     }
 }
 
-/// Notes the number of the terms' nonce, where it is the next one. The nonces that were known still are,
-/// also after an `Err`.
+/// Notes the number of the terms' nonce, where it is the next one. The nonces that were known still
+/// are, also after an `Err`.
 pub(crate) fn note_nonce(
     alloc: Global,
     nonces: &mut BTreeMap<NonceKey, u32>,

@@ -1,7 +1,8 @@
 //! Terms of a space as a key of an ordered map: their parts, of which each has an order.
 
 ghost use Rattle.std.specs.Prelude.{◌≡◌, IfOk, is_some, unwrap_or, []};
-ghost use Rattle.name_index.specs.TermsKeys.{IsKeyOfTerms, algorithm_number, flag_number, qop_number};
+ghost use Rattle.name_index.specs.TermsKeys.{IsKeyOfTerms, algorithm_number, flag_number};
+ghost use Rattle.name_index.specs.TermsKeys.{qop_number};
 
 use auth_text::{Bytes, NoMemory};
 use spaces::{Algorithm, Qop, Terms};

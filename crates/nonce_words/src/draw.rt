@@ -1,7 +1,7 @@
 //! One draw as contracts speak of it: the nonce beside what the draw gave.
 
-/// A count of a nonce, and the epoch that was read with it. It stands in contracts alone: what a seat drew is a list of
-/// these.
+/// A count of a nonce, and the epoch that was read with it. It stands in contracts alone: what a
+/// seat drew is a list of these.
 #[derive(Clone, Copy)]
 pub struct NonceDraw {
     pub nonce: u32,

@@ -3,14 +3,16 @@
 //! What a seat knows is a `Tally`. It stands in proofs alone, so no value of it is ever made.
 
 ghost use Rattle.std.specs.Prelude.{ℕ};
-ghost use Rattle.nonce_words.specs.Rule.{IsKept, opened, drew, retired, book_part, draw_part, without, only, noted, joined, spent};
+ghost use Rattle.nonce_words.specs.Rule.{IsKept, opened, drew, retired, book_part, draw_part};
+ghost use Rattle.nonce_words.specs.Rule.{without, only, noted, joined, spent};
 
 use crate::draw::NonceDraw;
 use atomic_table::{Join, Play, Split, TableRule};
 use std::collections::LinkedList;
 use std::marker::Brand;
 
-// What a seat has drawn, may draw, knows and made. Epochs are lists by nonce, 0 where the list is shorter.
+// What a seat has drawn, may draw, knows and made. Epochs are lists by nonce, 0 where the list is
+// shorter.
 pub(crate) struct Tally {
     pub(crate) quota: u64,
     pub(crate) drawn: LinkedList<NonceDraw>,

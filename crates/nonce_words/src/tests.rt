@@ -19,11 +19,18 @@ fn draw_by(
     third: &mut DrawSeat,
     seat: u8,
 ) -> u32
-    requires words { (first.old.table ≡ words.now.table) × (second.old.table ≡ words.now.table) × (third.old.table ≡ words.now.table) × (words.now.nonces ≡ 1) }
+    requires words { (first.old.table ≡ words.now.table) × (second.old.table ≡ words.now.table)
+        × (third.old.table ≡ words.now.table) × (words.now.nonces ≡ 1) }
     requires quota { (0 < first.old.quota) × (0 < second.old.quota) × (0 < third.old.quota) }
-    ensures words { (first.new.table ≡ words.now.table) × (second.new.table ≡ words.now.table) × (third.new.table ≡ words.now.table) }
-    ensures quota { (first.old.quota ≤ first.new.quota + 1) × (second.old.quota ≤ second.new.quota + 1) × (third.old.quota ≤ third.new.quota + 1) }
-    ensures all { (first.new.quota + length first.new.drawn) + (second.new.quota + length second.new.drawn) + (third.new.quota + length third.new.drawn) ≡ (first.old.quota + length first.old.drawn) + (second.old.quota + length second.old.drawn) + (third.old.quota + length third.old.drawn) }
+    ensures words { (first.new.table ≡ words.now.table)
+        × (second.new.table ≡ words.now.table) × (third.new.table ≡ words.now.table) }
+    ensures quota { (first.old.quota ≤ first.new.quota + 1)
+        × (second.old.quota ≤ second.new.quota + 1) × (third.old.quota ≤ third.new.quota + 1) }
+    ensures all { (first.new.quota + length first.new.drawn)
+        + (second.new.quota + length second.new.drawn)
+        + (third.new.quota + length third.new.drawn) ≡ (first.old.quota + length first.old.drawn)
+        + (second.old.quota + length second.old.drawn)
+        + (third.old.quota + length third.old.drawn) }
 {
     match seat {
         1 => words.draw(first, 1).count,
@@ -32,7 +39,8 @@ fn draw_by(
     }
 }
 
-// Five counts of one nonce, drawn by three seats in this order, and what a sixth draw gives after a retirement.
+// Five counts of one nonce, drawn by three seats in this order, and what a sixth draw gives after a
+// retirement.
 fn six_draws(alloc: Global, order: [u8; 5]) -> Result<([u32; 5], Drawn), NoMemory> {
     let (words, mut book, mut first) = NonceWords::new(alloc, 1)?;
     let mut second = words.split(&mut first, 20);

@@ -1,6 +1,7 @@
 //! The words, and the calls on them: each draw and each retirement is one atomic step.
 
-ghost use Rattle.std.specs.Prelude.{◌≡◌, ◌≢◌, ℕ, ◌+◌, ◌-◌, ◌^◌, ◌<◌, ◌≤◌, ◌++◌, ◌∷◌, [], length, max, sum, IfOk};
+ghost use Rattle.std.specs.Prelude.{◌≡◌, ◌≢◌, ℕ, ◌+◌, ◌-◌, ◌^◌, ◌<◌, ◌≤◌, ◌++◌, ◌∷◌, [], length};
+ghost use Rattle.std.specs.Prelude.{max, sum, IfOk};
 ghost use Rattle.nonce_words.specs.Views.{epoch_at};
 ghost use Rattle.nonce_words.specs.Fresh.{IsFresh};
 
@@ -27,16 +28,18 @@ impl Model for NonceWords {
 
     ghost view = { λ w. record { table = w.table.shared.table_id; nonces = w.nonces } };
 
-    ghost invariant = { λ w. (w.table.shared.table_id.words ≡ w.nonces + 1) × (w.table.shared.table_id.slots ≡ 0) × (w.table.shared.key ≡ w.nonces) };
+    ghost invariant = { λ w. (w.table.shared.table_id.words ≡ w.nonces + 1)
+        × (w.table.shared.table_id.slots ≡ 0) × (w.table.shared.key ≡ w.nonces) };
 }
 
 impl NonceWords {
-    /// Words for the nonces 1 to `nonces`, all 0, with the book's seat and the first drawing seat, which may draw
-    /// 2^30 counts in all.
+    /// Words for the nonces 1 to `nonces`, all 0, with the book's seat and the first drawing seat,
+    /// which may draw 2^30 counts in all.
     pub fn new(alloc: Global, nonces: u32) -> Result<(NonceWords, BookSeat, DrawSeat), NoMemory>
         ensures words { IfOk result (λ r. r.0.nonces ≡ nonces) }
         ensures book { IfOk result (λ r. r.1 ≡ record { table = r.0.table; made = [] }) }
-        ensures draws { IfOk result (λ r. r.2 ≡ record { table = r.0.table; quota = 2 ^ 30; drawn = []; known = [] }) }
+        ensures draws { IfOk result (λ r. r.2
+            ≡ record { table = r.0.table; quota = 2 ^ 30; drawn = []; known = [] }) }
     {
         let words = vec![in alloc; 0u64; nonces as usize + 1]?;
         let (table, mut seat) = Table::of_words(alloc, words.as_slice(), &nonces)?;
@@ -69,13 +72,18 @@ impl NonceWords {
         DrawSeat { seat }
     }
 
-    /// Draws the next count of the nonce, from 1 on, with the nonce's epoch: one `fetch_add` of 1. It waits for nobody
-    /// and takes no memory. Whose count comes next among several seats is free.
+    /// Draws the next count of the nonce, from 1 on, with the nonce's epoch: one `fetch_add` of 1.
+    /// It waits for nobody and takes no memory. Whose count comes next among several seats is free.
     pub fn draw(&self, seat: &mut DrawSeat, nonce: u32) -> Drawn
         requires words { seat.old.table ≡ self.now.table }
         requires quota { 0 < seat.old.quota }
         requires nonce { (0 < nonce) × (nonce ≤ self.now.nonces) }
-        ensures seat { seat.new ≡ record seat.old { quota = seat.old.quota - 1; drawn = seat.old.drawn ++ record { nonce = nonce; count = result.count; epoch = result.epoch } ∷ [] } }
+        ensures seat { seat.new
+            ≡ record seat.old {
+              quota = seat.old.quota - 1;
+              drawn = seat.old.drawn
+                  ++ record { nonce = nonce; count = result.count; epoch = result.epoch } ∷ [];
+            } }
         ensures count { (0 < result.count) × (result.count ≤ 2 ^ 30) }
         ensures epoch { epoch_at seat.old.known nonce ≤ result.epoch }
     {
@@ -89,8 +97,9 @@ impl NonceWords {
         }
     }
 
-    /// Begins a new epoch of the nonce, whose count goes on: one `fetch_add` of 2^32. A seat retires fewer than 2^31
-    /// times before that, over all nonces, so that no epoch carries out of its word.
+    /// Begins a new epoch of the nonce, whose count goes on: one `fetch_add` of 2^32. A seat
+    /// retires fewer than 2^31 times before that, over all nonces, so that no epoch carries out of
+    /// its word.
     pub fn retire(&self, seat: &mut BookSeat, nonce: u32)
         requires words { seat.old.table ≡ self.now.table }
         requires retirements { sum seat.old.made < 2 ^ 31 }
@@ -105,20 +114,22 @@ impl NonceWords {
             .fetch_add::<Retires>(&mut seat.seat, nonce as usize, 1 << 32);
     }
 
-    /// Joins a seat into another, which then has the quota and the draws of both, and knows of each nonce the greater
-    /// epoch.
+    /// Joins a seat into another, which then has the quota and the draws of both, and knows of each
+    /// nonce the greater epoch.
     pub fn join(&self, into: &mut DrawSeat, from: DrawSeat)
         requires words { (into.old.table ≡ self.now.table) × (from.table ≡ self.now.table) }
         ensures words { into.new.table ≡ into.old.table }
         ensures quota { into.new.quota ≡ into.old.quota + from.quota }
         ensures drawn { into.new.drawn ≡ into.old.drawn ++ from.drawn }
-        ensures known { (n : ℕ) → epoch_at into.new.known n ≡ max (epoch_at into.old.known n) (epoch_at from.known n) }
+        ensures known { (n : ℕ) → epoch_at into.new.known n
+            ≡ max (epoch_at into.old.known n) (epoch_at from.known n) }
     {
         let DrawSeat { seat } = from;
         self.table.shared.join_seat::<Joins>(&mut into.seat, seat);
     }
 
-    /// Ends the words. All other drawing seats were joined into this one: its quota and its draws are 2^30 together.
+    /// Ends the words. All other drawing seats were joined into this one: its quota and its draws
+    /// are 2^30 together.
     pub fn close(self, book: BookSeat, seat: DrawSeat)
         requires words { (book.table ≡ self.table) × (seat.table ≡ self.table) }
         requires all { seat.quota + length seat.drawn ≡ 2 ^ 30 }

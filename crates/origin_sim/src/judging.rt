@@ -1,6 +1,7 @@
 //! What a rule says to a head, after what it said before.
 
-ghost use Rattle.std.specs.Prelude.{◌≡◌, ◌≤◌, ◌<◌, ◌^◌, List, ℕ, length, reverse, find, Some, None, bytes_eq, option_copied, IfOk, IsTrue};
+ghost use Rattle.std.specs.Prelude.{◌≡◌, ◌≤◌, ◌<◌, ◌^◌, List, ℕ, length, reverse, find, Some, None};
+ghost use Rattle.std.specs.Prelude.{bytes_eq, option_copied, IfOk, IsTrue};
 ghost use Rattle.auth_text.specs.Login.{Login, is_login};
 ghost use Rattle.digest_handler.specs.Credentials.{digest_credentials};
 ghost use Rattle.origin_sim.specs.Judging as spec;
@@ -336,8 +337,8 @@ fn negotiate_said(
     link: LinkName,
     credentials: &Option<Bytes>,
 ) -> Result<Said, NoMemory>
-    ensures { let begun = spec.has_begun rule link past.now in
-        IfOk result (λ said. said ≡ spec.negotiate_said first.now second.now credentials.now begun) }
+    ensures { let begun = spec.has_begun rule link past.now in IfOk result (λ said. said
+        ≡ spec.negotiate_said first.now second.now credentials.now begun) }
 {
     if has_token(alloc, second, credentials)? && has_begun(rule, link, past) {
         Ok(Said::Accepted)

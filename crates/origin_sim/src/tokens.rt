@@ -1,6 +1,7 @@
 //! A provider of tokens for simulated servers.
 
-ghost use Rattle.std.specs.Prelude.{◌≡◌, [], ◌∷◌, ◌++◌, Some, true, List, codes, option_copied, IfOk, OnErr};
+ghost use Rattle.std.specs.Prelude.{◌≡◌, [], ◌∷◌, ◌++◌, Some, true, List, codes, option_copied};
+ghost use Rattle.std.specs.Prelude.{IfOk, OnErr};
 ghost use Rattle.link_trait.specs.declared.tokens.TokenCall.{TokenCall};
 ghost use Rattle.link_trait.specs.declared.tokens.TokenCall.TheVariants.{Started, WentOn};
 ghost use Rattle.origin_sim.specs.Steps.{are_simulated, step_at};

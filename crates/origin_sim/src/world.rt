@@ -43,7 +43,8 @@ fn rule_of(target: Target, origin: &Origin, rules: &[Rule]) -> Option<usize>
 impl World {
     /// A world of that number and these rules, which answered nothing yet.
     pub fn new(alloc: Global, number: u32, rules: Rules) -> Result<World, NoMemory>
-        ensures { IfOk result (λ world. world ≡ record { number = number; rules = rules; past = [] }) }
+        ensures { IfOk result (λ world. world
+            ≡ record { number = number; rules = rules; past = [] }) }
     {
         Ok(World {
             alloc,

@@ -3,11 +3,15 @@
 //! taken at once, and each call goes over the notes of its index alone, at most ten for each of
 //! its spaces.
 
-ghost use Rattle.std.specs.Prelude.{◌≡◌, ◌≤◌, ◌<◌, ◌*◌, ◌++◌, ◌∷◌, ◌||◌, ◌==◌, [], IfOk, IsTrue, is_some, length, drop, take, not, option_map, unwrap_or, nat_lt, nat_le, filter, ◌&&◌, count_by, vec_capacity, IfSome};
+ghost use Rattle.std.specs.Prelude.{◌≡◌, ◌≤◌, ◌<◌, ◌*◌, ◌++◌, ◌∷◌, ◌||◌, ◌==◌, [], IfOk, IsTrue};
+ghost use Rattle.std.specs.Prelude.{is_some, length, drop, take, not, option_map, unwrap_or};
+ghost use Rattle.std.specs.Prelude.{nat_lt, nat_le, filter, ◌&&◌, count_by, vec_capacity, IfSome};
 ghost use Rattle.std.specs.List.{list_any, position_from};
 ghost use Rattle.spaces.specs.Sites.{numbered};
 ghost use Rattle.spaces.specs.Paths.{covers};
-ghost use Rattle.path_lookup.specs.Notes.{added, best_note, better_note, covers_it, deepest, dir_at, drop_first, has_free_row, is_covered, is_of, under, with_room, without};
+ghost use Rattle.path_lookup.specs.Notes.{added, best_note, better_note, covers_it, deepest};
+ghost use Rattle.path_lookup.specs.Notes.{dir_at, drop_first, has_free_row, is_covered, is_of};
+ghost use Rattle.path_lookup.specs.Notes.{under, with_room, without};
 
 use auth_text::NoMemory;
 use spaces::{Roster, Target, covers, dir_of};
@@ -42,7 +46,8 @@ impl Model for PathIndex {
 
     ghost view = { λ p. record { spaces = p.spaces; notes = p.notes.items } };
 
-    ghost invariant = { λ p. AreWithinRows p.spaces p.notes.items × (10 * p.spaces ≤ vec_capacity p.notes) };
+    ghost invariant = { λ p. AreWithinRows p.spaces p.notes.items
+        × (10 * p.spaces ≤ vec_capacity p.notes) };
 }
 
 impl PathIndex {
@@ -135,7 +140,8 @@ fn covers_it(roster: &Roster, note: Note, held: Note) -> bool
 
 /// Drops the directories of the note's space that the note's covers.
 fn drop_covered(roster: &Roster, notes: &mut Vec<Note>, note: Note)
-    ensures notes { notes.new.items ≡ filter (λ held. not (covers_it roster.now note held)) notes.old.items }
+    ensures notes { notes.new.items
+        ≡ filter (λ held. not (covers_it roster.now note held)) notes.old.items }
     ensures capacity { vec_capacity notes.new ≡ vec_capacity notes.old }
 {
     notes.retain(|held| !covers_it(roster, note, *held));

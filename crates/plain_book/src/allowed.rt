@@ -1,6 +1,7 @@
 //! Whether a call may be made: the conditions of the ten calls, decided.
 
-ghost use Rattle.std.specs.Prelude.{◌≡◌, ◌&&◌, ◌==◌, not, reverse, length, is_some, option_map, option_and_then, unwrap_or, nat_le, if◌then◌else◌, false};
+ghost use Rattle.std.specs.Prelude.{◌≡◌, ◌&&◌, ◌==◌, not, reverse, length, is_some, option_map};
+ghost use Rattle.std.specs.Prelude.{option_and_then, unwrap_or, nat_le, if◌then◌else◌, false};
 ghost use Rattle.std.specs.List.{list_any};
 ghost use Rattle.spaces.specs.Sites.{is_on_route, numbered, site};
 ghost use Rattle.auth_events.specs.Book as Book;
@@ -26,7 +27,8 @@ fn own_len(entries: &[Entry], request: u32) -> usize
 }
 
 fn has_begun(entries: &[Entry], caller: u32, request: u32) -> bool
-    ensures { result ≡ list_any (λ entry. Book.begins entry.call && entry.caller == caller) (Book.own (reverse entries.now) request) }
+    ensures { result ≡ list_any (λ entry. Book.begins entry.call
+        && entry.caller == caller) (Book.own (reverse entries.now) request) }
 {
     let mut found = false;
     for entry in entries {
@@ -38,7 +40,8 @@ fn has_begun(entries: &[Entry], caller: u32, request: u32) -> bool
 }
 
 fn has_ended(entries: &[Entry], request: u32) -> bool
-    ensures { result ≡ list_any (λ entry. Book.ends entry.call) (Book.own (reverse entries.now) request) }
+    ensures { result
+        ≡ list_any (λ entry. Book.ends entry.call) (Book.own (reverse entries.now) request) }
 {
     let mut found = false;
     for entry in entries {
@@ -50,7 +53,8 @@ fn has_ended(entries: &[Entry], request: u32) -> bool
 }
 
 fn has_preempted(entries: &[Entry], request: u32, target: Target) -> bool
-    ensures { result ≡ list_any (λ entry. Book.preempts entry.call target) (Book.own (reverse entries.now) request) }
+    ensures { result ≡ list_any
+        (λ entry. Book.preempts entry.call target) (Book.own (reverse entries.now) request) }
 {
     let mut found = false;
     for entry in entries {
@@ -89,7 +93,8 @@ fn prompt_followed(reply: BookReply) -> u32
 }
 
 fn has_taken(entries: &[Entry], request: u32, prompt: u32) -> bool
-    ensures { result ≡ list_any (λ entry. Book.takes entry.call prompt) (Book.own (reverse entries.now) request) }
+    ensures { result ≡ list_any
+        (λ entry. Book.takes entry.call prompt) (Book.own (reverse entries.now) request) }
 {
     let mut found = false;
     for entry in entries {
@@ -101,7 +106,8 @@ fn has_taken(entries: &[Entry], request: u32, prompt: u32) -> bool
 }
 
 fn has_followed(entries: &[Entry], request: u32, prompt: u32) -> bool
-    ensures { result ≡ list_any (λ entry. Past.prompt_followed entry.reply == prompt) (Book.own (reverse entries.now) request) }
+    ensures { result ≡ list_any (λ entry.
+        Past.prompt_followed entry.reply == prompt) (Book.own (reverse entries.now) request) }
 {
     let mut found = false;
     for entry in entries {
@@ -113,7 +119,9 @@ fn has_followed(entries: &[Entry], request: u32, prompt: u32) -> bool
 }
 
 fn leads_on(entries: &[Entry], request: u32) -> bool
-    ensures { result ≡ list_any (λ entry. Past.is_lead entry.reply && not (Past.settled (reverse entries.now) (Past.prompt_led entry.reply))) (Book.own (reverse entries.now) request) }
+    ensures { result ≡ list_any (λ entry. Past.is_lead entry.reply
+        && not (Past.settled (reverse entries.now) (Past.prompt_led entry.reply)))
+        (Book.own (reverse entries.now) request) }
 {
     let mut found = false;
     for entry in entries {
@@ -129,14 +137,18 @@ fn leads_on(entries: &[Entry], request: u32) -> bool
 
 /// Whether the entry follows a prompt that the request hasn't taken.
 fn is_untaken(entries: &[Entry], request: u32, entry: &Entry) -> bool
-    ensures { result ≡ (not (Past.prompt_followed entry.now.reply == 0) && not (list_any (λ later. Book.takes later.call (Past.prompt_followed entry.now.reply)) (Book.own (reverse entries.now) request))) }
+    ensures { result ≡ (not (Past.prompt_followed entry.now.reply == 0)
+        && not (list_any (λ later. Book.takes later.call (Past.prompt_followed entry.now.reply))
+        (Book.own (reverse entries.now) request))) }
 {
     let prompt = prompt_followed(entry.reply);
     prompt != 0 && !has_taken(entries, request, prompt)
 }
 
 fn follows_on(entries: &[Entry], request: u32) -> bool
-    ensures { result ≡ list_any (λ entry. not (Past.prompt_followed entry.reply == 0) && not (list_any (λ later. Book.takes later.call (Past.prompt_followed entry.reply)) (Book.own (reverse entries.now) request))) (Book.own (reverse entries.now) request) }
+    ensures { result ≡ list_any (λ entry. not (Past.prompt_followed entry.reply == 0)
+        && not (list_any (λ later. Book.takes later.call (Past.prompt_followed entry.reply))
+        (Book.own (reverse entries.now) request))) (Book.own (reverse entries.now) request) }
 {
     let mut found = false;
     for entry in entries {
@@ -218,7 +230,8 @@ fn fits_space(names: &Names, space: u32, terms: u32) -> bool
 
 /// Whether the target is on the request's route.
 fn is_on_route(roster: &Roster, request: u32, target: Target) -> bool
-    ensures { result ≡ unwrap_or (option_map (λ found. is_on_route found target) (numbered roster.now.requests request)) false }
+    ensures { result ≡ unwrap_or (option_map
+        (λ found. is_on_route found target) (numbered roster.now.requests request)) false }
 {
     match roster.requests.get(request) {
         Some(found) => match target {
@@ -244,7 +257,8 @@ fn is_site_of(roster: &Roster, request: u32, space: &Space) -> bool
 }
 
 fn is_named_site(roster: &Roster, names: &Names, request: u32, space: u32) -> bool
-    ensures { result ≡ unwrap_or (option_map (Book.is_site_of roster.now request) (Book.space_named names.now space)) false }
+    ensures { result ≡ unwrap_or (option_map
+        (Book.is_site_of roster.now request) (Book.space_named names.now space)) false }
 {
     match names.space(space) {
         Some(named) => is_site_of(roster, request, named),
@@ -259,7 +273,8 @@ fn is_text(names: &Names, text: u32) -> bool
 }
 
 fn has_those_terms(entries: &[Entry], prompt: u32, terms: u32) -> bool
-    ensures { result ≡ unwrap_or (option_map (λ entry. Book.terms_selected entry.call == terms) (Past.lead (reverse entries.now) prompt)) false }
+    ensures { result ≡ unwrap_or (option_map (λ entry.
+        Book.terms_selected entry.call == terms) (Past.lead (reverse entries.now) prompt)) false }
 {
     match scan::lead(entries, prompt) {
         Some(entry) => match entry.call {
@@ -329,7 +344,8 @@ fn is_open(entries: &[Entry], caller: u32, request: u32) -> bool
 }
 
 fn may_stand(entries: &[Entry], caller: u32, request: u32, call: Call) -> bool
-    ensures { result ≡ (if Book.begins call then Book.no_entry (reverse entries.now) request else Book.is_open (reverse entries.now) caller request) }
+    ensures { result ≡ (if Book.begins call then Book.no_entry (reverse entries.now) request
+        else Book.is_open (reverse entries.now) caller request) }
 {
     if matches!(call, Call::Begin) {
         own_len(entries, request) == 0

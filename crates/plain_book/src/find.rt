@@ -117,14 +117,16 @@ fn is_rival(names: &Names, space: u32, other: u32) -> bool
 
 /// Whether the other space is live and may be evicted for the space.
 fn is_live_rival(names: &Names, entries: &[Entry], space: u32, other: u32) -> bool
-    ensures { result ≡ (Past.live (reverse entries.now) other && Book.is_rival names.now space other) }
+    ensures { result
+        ≡ (Past.live (reverse entries.now) other && Book.is_rival names.now space other) }
 {
     live(entries, other) && is_rival(names, space, other)
 }
 
 /// How many live spaces may be evicted for the space.
 fn rival_count(names: &Names, entries: &[Entry], space: u32) -> usize
-    ensures { result ≡ length (Past.live_rivals (Book.is_rival names.now space) (reverse entries.now)) }
+    ensures { result
+        ≡ length (Past.live_rivals (Book.is_rival names.now space) (reverse entries.now)) }
 {
     let mut count = 0;
     for entry in entries {

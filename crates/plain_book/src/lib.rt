@@ -1,5 +1,5 @@
-//! A book that finds every reply by going over its journal, the decision of the conditions under which
-//! a call may be made, and the words of nonces that one caller draws.
+//! A book that finds every reply by going over its journal, the decision of the conditions under
+//! which a call may be made, and the words of nonces that one caller draws.
 #![tactic(auto)]
 
 mod allowed;

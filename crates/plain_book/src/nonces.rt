@@ -1,5 +1,5 @@
-//! The nonces that entries take out of live spaces. An entry can move two spaces alone, the one whose
-//! terms it sets and the one that it takes away, so no other is looked at.
+//! The nonces that entries take out of live spaces. An entry can move two spaces alone, the one
+//! whose terms it sets and the one that it takes away, so no other is looked at.
 
 ghost use Rattle.std.specs.Prelude.{◌≡◌, ◌∷◌, ◌^◌, ◌<◌, ◌==◌, reverse, length};
 ghost use Rattle.std.specs.List.{list_any};
@@ -86,7 +86,8 @@ fn holds_nonce_after(names: &Names, before: &[Entry], entry: &Entry, nonce: u32,
 
 /// Whether a live space that had the nonce before hasn't it once the entry is made.
 fn is_left(names: &Names, before: &[Entry], entry: &Entry, nonce: u32, space: u32) -> bool
-    ensures { result ≡ Book.is_left names.now (reverse before.now) (entry.now ∷ reverse before.now) nonce space }
+    ensures { result ≡ Book.is_left names.now
+        (reverse before.now) (entry.now ∷ reverse before.now) nonce space }
 {
     holds_nonce(names, before, nonce, space)
         && !holds_nonce_after(names, before, entry, nonce, space)
@@ -94,7 +95,8 @@ fn is_left(names: &Names, before: &[Entry], entry: &Entry, nonce: u32, space: u3
 
 /// Whether the space was ever given.
 fn was_given(entries: &[Entry], space: u32) -> bool
-    ensures { result ≡ list_any (λ given. given == space) (Past.spaces_given (reverse entries.now)) }
+    ensures { result
+        ≡ list_any (λ given. given == space) (Past.spaces_given (reverse entries.now)) }
 {
     let mut found = false;
     for entry in entries {
@@ -109,7 +111,9 @@ fn was_given(entries: &[Entry], space: u32) -> bool
 
 /// Whether there is a space that was given, and it leaves the nonce.
 fn leaves(names: &Names, before: &[Entry], entry: &Entry, nonce: u32, space: Option<u32>) -> bool
-    ensures { result ≡ Moves.passes_in (Book.is_left names.now (reverse before.now) (entry.now ∷ reverse before.now) nonce) (Past.spaces_given (reverse before.now)) space }
+    ensures { result ≡ Moves.passes_in
+        (Book.is_left names.now (reverse before.now) (entry.now ∷ reverse before.now) nonce)
+        (Past.spaces_given (reverse before.now)) space }
 {
     match space {
         Some(space) => is_left(names, before, entry, nonce, space) && was_given(before, space),

@@ -1,7 +1,8 @@
-//! The directories of a space, and what is found by a path. A directory is known by the place of the
-//! entry that noted it, so nothing is copied.
+//! The directories of a space, and what is found by a path. A directory is known by the place of
+//! the entry that noted it, so nothing is copied.
 
-ghost use Rattle.std.specs.Prelude.{◌≡◌, ◌^◌, ◌<◌, ◌≤◌, reverse, length, map, filter, not, option_map, if◌then◌else◌, nat_lt, drop, ◌&&◌, bytes_eq};
+ghost use Rattle.std.specs.Prelude.{◌≡◌, ◌^◌, ◌<◌, ◌≤◌, reverse, length, map, filter, not};
+ghost use Rattle.std.specs.Prelude.{option_map, if◌then◌else◌, nat_lt, drop, ◌&&◌, bytes_eq};
 ghost use Rattle.std.specs.List.{list_any};
 ghost use Rattle.spaces.specs.Paths.{covers};
 ghost use Rattle.spaces.specs.Sites.{site, same_site};
@@ -53,7 +54,9 @@ fn dir_at<'a>(roster: &'a Roster, entries: &[Entry], target: Target, place: u32)
 
 /// Whether one of the directories covers that of the place.
 fn is_covered(roster: &Roster, entries: &[Entry], target: Target, held: &[u32], place: u32) -> bool
-    ensures { result ≡ list_any (λ one. covers one.dir (noted_at roster.now entries.now target place).dir) (map (noted_at roster.now entries.now target) held.now) }
+    ensures { result
+        ≡ list_any (λ one. covers one.dir (noted_at roster.now entries.now target place).dir)
+        (map (noted_at roster.now entries.now target) held.now) }
 {
     let mut found = false;
     for one in held {
@@ -76,7 +79,9 @@ fn uncovered(
     place: u32,
 ) -> ArrayVec<u32, 10>
     requires { length held.now ≤ 10 }
-    ensures { map (noted_at roster.now entries.now target) result.items ≡ filter (λ one. not (covers (noted_at roster.now entries.now target place).dir one.dir)) (map (noted_at roster.now entries.now target) held.now) }
+    ensures { map (noted_at roster.now entries.now target) result.items
+        ≡ filter (λ one. not (covers (noted_at roster.now entries.now target place).dir one.dir))
+        (map (noted_at roster.now entries.now target) held.now) }
 {
     let mut kept = ArrayVec::new();
     for one in held {
@@ -92,7 +97,8 @@ fn uncovered(
 
 /// Of ten places the first is dropped.
 fn with_room(mut places: ArrayVec<u32, 10>) -> ArrayVec<u32, 10>
-    ensures places { result.items ≡ (if nat_lt (length places.items) 10 then places.items else drop 1 places.items) }
+    ensures places { result.items
+        ≡ (if nat_lt (length places.items) 10 then places.items else drop 1 places.items) }
     ensures room { length result.items < 10 }
 {
     if places.is_full() {
@@ -110,7 +116,9 @@ fn with_dir(
     held: ArrayVec<u32, 10>,
     place: u32,
 ) -> ArrayVec<u32, 10>
-    ensures { map (noted_at roster.now entries.now target) result.items ≡ Book.with_dir (noted_at roster.now entries.now target place) (map (noted_at roster.now entries.now target) held.items) }
+    ensures { map (noted_at roster.now entries.now target) result.items
+        ≡ Book.with_dir (noted_at roster.now entries.now target place)
+        (map (noted_at roster.now entries.now target) held.items) }
 {
     if is_covered(roster, entries, target, held.as_slice(), place) {
         return held;
@@ -133,7 +141,8 @@ fn notes(entry: &Entry, space: u32) -> bool
 #[tactic(auto, using(crate::proofs::Kept::dirs_more))]
 fn dirs(roster: &Roster, names: &Names, entries: &[Entry], space: u32) -> ArrayVec<u32, 10>
     requires { length entries.now < 2 ^ 32 }
-    ensures { map (noted_at roster.now entries.now (Book.target_of names.now space)) result.items ≡ Book.dirs roster.now names.now (reverse entries.now) space }
+    ensures { map (noted_at roster.now entries.now (Book.target_of names.now space)) result.items
+        ≡ Book.dirs roster.now names.now (reverse entries.now) space }
 {
     let target = target_of(names, space);
     let mut held = ArrayVec::new();
@@ -156,7 +165,9 @@ fn better(
     a: Option<FoundAt>,
     b: Option<FoundAt>,
 ) -> Option<FoundAt>
-    ensures { option_map (found_at roster.now names.now entries.now) result ≡ Book.better (option_map (found_at roster.now names.now entries.now) a) (option_map (found_at roster.now names.now entries.now) b) }
+    ensures { option_map (found_at roster.now names.now entries.now) result
+        ≡ Book.better (option_map (found_at roster.now names.now entries.now) a)
+        (option_map (found_at roster.now names.now entries.now) b) }
 {
     match (a, b) {
         (None, b) => b,
@@ -172,7 +183,8 @@ fn better(
 }
 
 fn is_longer(roster: &Roster, names: &Names, entries: &[Entry], a: FoundAt, b: FoundAt) -> bool
-    ensures { result ≡ Book.longer (found_at roster.now names.now entries.now a).noted (found_at roster.now names.now entries.now b).noted }
+    ensures { result ≡ Book.longer (found_at roster.now names.now entries.now a).noted
+        (found_at roster.now names.now entries.now b).noted }
 {
     let a_len = dir_at(roster, entries, target_of(names, a.space), a.place).len();
     let b_len = dir_at(roster, entries, target_of(names, b.space), b.place).len();
@@ -253,7 +265,9 @@ fn best_dir(
     space: u32,
     held: &[u32],
 ) -> Option<FoundAt>
-    ensures { option_map (found_at roster.now names.now entries.now) result ≡ best_dir path.now space (map (noted_at roster.now entries.now (Book.target_of names.now space)) held.now) }
+    ensures { option_map (found_at roster.now names.now entries.now) result
+        ≡ best_dir path.now space
+        (map (noted_at roster.now entries.now (Book.target_of names.now space)) held.now) }
 {
     let mut best = None;
     for place in held {
@@ -282,7 +296,9 @@ fn found_in(
     space: u32,
 ) -> Option<FoundAt>
     requires { length entries.now < 2 ^ 32 }
-    ensures { option_map (found_at roster.now names.now entries.now) result ≡ Book.found_in roster.now names.now (reverse entries.now) (site_seen place.entry) path.now space }
+    ensures { option_map (found_at roster.now names.now entries.now) result
+        ≡ Book.found_in roster.now names.now
+        (reverse entries.now) (site_seen place.entry) path.now space }
 {
     // The names go first: they cost less than a look at the entries.
     if (is_basic(names, space) || is_digest(names, space))
@@ -311,7 +327,9 @@ fn found_by_path(
     path: &[u8],
 ) -> Option<FoundAt>
     requires { length entries.now < 2 ^ 32 }
-    ensures { option_map (found_at roster.now names.now entries.now) result ≡ Book.best_found (Book.found_in roster.now names.now (reverse entries.now) (site_seen place.entry) path.now) (Past.spaces_given (reverse entries.now)) }
+    ensures { option_map (found_at roster.now names.now entries.now) result
+        ≡ Book.best_found (Book.found_in roster.now names.now (reverse entries.now)
+        (site_seen place.entry) path.now) (Past.spaces_given (reverse entries.now)) }
 {
     let mut best = None;
     for entry in entries {
@@ -337,7 +355,8 @@ pub fn space_by_path(
     target: Target,
 ) -> Option<u32>
     requires { length entries.now < 2 ^ 32 }
-    ensures { result ≡ Book.space_by_path roster.now names.now (reverse entries.now) request target }
+    ensures { result
+        ≡ Book.space_by_path roster.now names.now (reverse entries.now) request target }
 {
     let found = roster.requests.get(request)?;
     let place = site(found, target)?;

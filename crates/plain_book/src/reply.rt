@@ -44,9 +44,12 @@ pub fn was_default_told(entries: &[Entry], request: u32, space: u32) -> bool
     found
 }
 
-/// Whether the URL's identity may be given: the target is the server, and `Url` wasn't answered before.
+/// Whether the URL's identity may be given: the target is the server, and `Url` wasn't answered
+/// before.
 fn may_use_url(roster: &Roster, names: &Names, entries: &[Entry], request: u32, space: u32) -> bool
-    ensures { result ≡ (Book.is_server (Book.target_of names.now space) && Book.has_url_identity roster.now request && not (Book.was_url_told (reverse entries.now) request)) }
+    ensures { result ≡ (Book.is_server (Book.target_of names.now space)
+        && Book.has_url_identity roster.now request
+        && not (Book.was_url_told (reverse entries.now) request)) }
 {
     matches!(target_of(names, space), Target::Server)
         && has_url_identity(roster, request)
@@ -62,7 +65,9 @@ fn may_use_default(
     request: u32,
     space: u32,
 ) -> bool
-    ensures { result ≡ (Book.scheme_is names.now Book.is_negotiate space && Book.is_allowed_origin roster.now names.now space && not (Book.was_default_told (reverse entries.now) request space)) }
+    ensures { result ≡ (Book.scheme_is names.now Book.is_negotiate space
+        && Book.is_allowed_origin roster.now names.now space
+        && not (Book.was_default_told (reverse entries.now) request space)) }
 {
     is_negotiate(names, space)
         && is_allowed_origin(roster, names, space)
@@ -78,7 +83,9 @@ pub fn select(
     space: u32,
 ) -> BookReply
     requires { length entries.now + 1 < 2 ^ 32 }
-    ensures { result ≡ Book.select_answer (Book.is_rival names.now space) (reverse entries.now) space (Book.choice roster.now names.now (reverse entries.now) request space) }
+    ensures { result
+        ≡ Book.select_answer (Book.is_rival names.now space) (reverse entries.now) space
+        (Book.choice roster.now names.now (reverse entries.now) request space) }
 {
     let held = scan::current(entries, space);
     let led = scan::open_lead(entries, space);
@@ -134,7 +141,9 @@ pub fn space_of_prompt(entries: &[Entry], prompt: u32) -> u32
 /// The reply to an `Answer`.
 pub fn answer(names: &Names, entries: &[Entry], prompt: u32, text: u32) -> BookReply
     requires { length entries.now + 1 < 2 ^ 32 }
-    ensures { result ≡ Book.given_answer (Book.is_rival names.now (Book.space_of_prompt (reverse entries.now) prompt)) (reverse entries.now) (Book.space_of_prompt (reverse entries.now) prompt) text }
+    ensures { result ≡ Book.given_answer
+        (Book.is_rival names.now (Book.space_of_prompt (reverse entries.now) prompt))
+        (reverse entries.now) (Book.space_of_prompt (reverse entries.now) prompt) text }
 {
     if text == 0 {
         return BookReply::Cancelled;
@@ -161,7 +170,8 @@ fn preempt(
     target: Target,
 ) -> BookReply
     requires { length entries.now < 2 ^ 32 }
-    ensures { result ≡ Book.preempt_answer names.now (reverse entries.now) (Book.space_by_path roster.now names.now (reverse entries.now) request target) }
+    ensures { result ≡ Book.preempt_answer names.now (reverse entries.now)
+        (Book.space_by_path roster.now names.now (reverse entries.now) request target) }
 {
     match space_by_path(roster, names, entries, request, target) {
         Some(space) => ready(names, entries, space),
@@ -172,7 +182,8 @@ fn preempt(
 /// The gift that the space holds, ready to be sent.
 fn ready(names: &Names, entries: &[Entry], space: u32) -> BookReply
     requires { length entries.now < 2 ^ 32 }
-    ensures { result ≡ Book.ready names.now (reverse entries.now) space (Past.current (reverse entries.now) space) }
+    ensures { result ≡ Book.ready names.now
+        (reverse entries.now) space (Past.current (reverse entries.now) space) }
 {
     match scan::current(entries, space) {
         Some(gift) => {

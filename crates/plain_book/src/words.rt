@@ -1,16 +1,19 @@
 //! The words of one caller: what the draws of nonces gave, without a thread in sight.
 
-ghost use Rattle.std.specs.Prelude.{◌≡◌, ◌≤◌, ◌<◌, ◌+◌, ◌^◌, ℕ, List, Some, IfOk, All, length, replicate, count_by};
+ghost use Rattle.std.specs.Prelude.{◌≡◌, ◌≤◌, ◌<◌, ◌+◌, ◌^◌, ℕ, List, Some, IfOk, All, length};
+ghost use Rattle.std.specs.Prelude.{replicate, count_by};
 ghost use Rattle.spaces.specs.Sites.{numbered};
-ghost use Rattle.plain_book.specs.Words.{Step, draws_of, is_draw, is_retirement, nonce_in, retirements_of, unused, with_draw, with_retirement, words_after};
+ghost use Rattle.plain_book.specs.Words.{Step, draws_of, is_draw, is_retirement, nonce_in};
+ghost use Rattle.plain_book.specs.Words.{retirements_of, unused, with_draw, with_retirement};
+ghost use Rattle.plain_book.specs.Words.{words_after};
 
 use auth_events::Drawn;
 use auth_text::NoMemory;
 use std::alloc::Global;
 use std::marker::Model;
 
-/// For each nonce how often it was drawn and how often it was retired. Seen as the list of these two
-/// numbers, in order of the nonces' numbers.
+/// For each nonce how often it was drawn and how often it was retired. Seen as the list of these
+/// two numbers, in order of the nonces' numbers.
 #[derive(Debug, Drop)]
 pub struct PlainWords {
     words: Vec<Drawn>,
@@ -46,12 +49,15 @@ impl PlainWords {
         self.words.len() as u32
     }
 
-    /// Draws the nonce: the count is the number of its draws, this one among them, and the epoch is that
-    /// of its retirements.
+    /// Draws the nonce: the count is the number of its draws, this one among them, and the epoch is
+    /// that of its retirements.
     pub fn draw(&mut self, nonce: u32) -> Drawn
         requires nonce { (1 ≤ nonce) × (nonce ≤ length self.old) }
         requires few { draws_of self.old nonce < 2 ^ 30 }
-        ensures drawn { result ≡ record { count = draws_of self.old nonce + 1; epoch = retirements_of self.old nonce } }
+        ensures drawn { result ≡ record {
+          count = draws_of self.old nonce + 1;
+          epoch = retirements_of self.old nonce;
+        } }
         ensures words { self.new ≡ with_draw self.old nonce }
     {
         let at = nonce as usize - 1;
@@ -79,8 +85,13 @@ impl PlainWords {
     }
 }
 
-/// After any draws and retirements, the nonces numbered from 1, the word of each nonce has the number of its draws and that of its
-/// retirements.
+/// After any draws and retirements, the nonces numbered from 1, the word of each nonce has the
+/// number of its draws and that of its retirements.
 pub fn words_count_steps()
-    ensures { (nonces n : ℕ) (steps : List Step) → 1 ≤ n → n ≤ nonces → All (λ step. 1 ≤ nonce_in step) steps → numbered (words_after nonces steps) n ≡ Some (record { count = count_by (is_draw n) steps; epoch = count_by (is_retirement n) steps }) }
+    ensures { (nonces n : ℕ) (steps : List Step) → 1 ≤ n → n ≤ nonces
+        → All (λ step. 1 ≤ nonce_in step) steps → numbered (words_after nonces steps) n
+        ≡ Some (record {
+          count = count_by (is_draw n) steps;
+          epoch = count_by (is_retirement n) steps;
+        }) }
 {}

@@ -1,7 +1,9 @@
 //! The queue. It keeps its answers for good, since a follower may take long after other prompts of
 //! the space were led.
 
-ghost use Rattle.std.specs.Prelude.{◌≡◌, ◌+◌, ◌*◌, ◌<◌, ◌≤◌, [], Some, IfOk, OnOk, OnErr, None, IsTrue, is_some, length, reverse, option_map, max, false, slice_get, ◌-◌};
+ghost use Rattle.std.specs.Prelude.{◌≡◌, ◌+◌, ◌*◌, ◌<◌, ◌≤◌, [], Some, IfOk, OnOk, OnErr, None};
+ghost use Rattle.std.specs.Prelude.{IsTrue, is_some, length, reverse, option_map, max, false};
+ghost use Rattle.std.specs.Prelude.{slice_get, ◌-◌};
 ghost use Rattle.prompt_queue.specs.declared.queue.PromptTake.TheVariants.{Pending, Lost};
 ghost use Rattle.prompt_queue.specs.Prompts.{prompt_of, open_prompt};
 ghost use Rattle.prompt_queue.specs.Rows.{AreNumbered, AreKept};
@@ -64,7 +66,11 @@ impl Model for PromptQueue {
 
     ghost use Rattle.prompt_queue.specs.Rows.{AreKept};
 
-    ghost view = { λ q. record { requests = q.requests; spaces = length q.rows.items; prompts = reverse q.prompts.items } };
+    ghost view = { λ q. record {
+      requests = q.requests;
+      spaces = length q.rows.items;
+      prompts = reverse q.prompts.items;
+    } };
 
     ghost invariant = { λ q. AreKept q.rows.items (reverse q.prompts.items)
         × (q.requests ≤ 2048)
@@ -72,12 +78,14 @@ impl Model for PromptQueue {
 }
 
 impl PromptQueue {
-    ghost use Rattle.prompt_queue.specs.Prompts.{ending_of, is_pending, joined, with_joined, answered, with_ending};
+    ghost use Rattle.prompt_queue.specs.Prompts.{ending_of, is_pending, joined, with_joined};
+    ghost use Rattle.prompt_queue.specs.Prompts.{answered, with_ending};
 
     /// Takes the room for prompts.
     pub fn new(alloc: Global, requests: u32) -> Result<PromptQueue, NoMemory>
         requires { requests ≤ 2048 }
-        ensures { IfOk result (λ queue. queue ≡ record { requests = requests; spaces = 0; prompts = [] }) }
+        ensures { IfOk result (λ queue. queue
+            ≡ record { requests = requests; spaces = 0; prompts = [] }) }
     {
         let prompts = Vec::with_capacity(alloc, 32 * requests as usize)?;
         Ok(PromptQueue {
@@ -89,7 +97,8 @@ impl PromptQueue {
 
     /// Takes the room for the spaces up to this one. An `Err` changes nothing.
     pub fn add_space(&mut self, space: u32) -> Result<(), NoMemory>
-        ensures ok { OnOk result (self.new ≡ record self.old { spaces = max self.old.spaces (space + 1) }) }
+        ensures ok { OnOk result (self.new
+            ≡ record self.old { spaces = max self.old.spaces (space + 1) }) }
         ensures err { OnErr result (self.new ≡ self.old) }
     {
         let len = space as usize + 1;
@@ -120,7 +129,8 @@ impl PromptQueue {
         requires added { space < self.old.spaces }
         requires room { length self.old.prompts < 32 * self.old.requests }
         ensures joined { result ≡ joined self.old.prompts space }
-        ensures prompts { self.new ≡ record self.old { prompts = with_joined self.old.prompts space request result } }
+        ensures prompts { self.new
+            ≡ record self.old { prompts = with_joined self.old.prompts space request result } }
     {
         match open_number(self.rows.as_slice(), self.prompts.as_slice(), space) {
             Some(prompt) => Joined::Follow { prompt },
@@ -134,7 +144,8 @@ impl PromptQueue {
         requires room { length self.old.prompts < 32 * self.old.requests }
         requires none { open_prompt self.old.prompts space ≡ None }
         ensures joined { result ≡ joined self.old.prompts space }
-        ensures prompts { self.new ≡ record self.old { prompts = with_joined self.old.prompts space request result } }
+        ensures prompts { self.new
+            ≡ record self.old { prompts = with_joined self.old.prompts space request result } }
     {
         let prompt = self.prompts.len() as u32 + 1;
         let ordinal = self.rows[space as usize].led + 1;
@@ -154,7 +165,10 @@ impl PromptQueue {
     /// The prompt gets its answer: the ordinal of the gift that was given, or 0 for a cancel.
     pub fn answer(&mut self, prompt: u32, ordinal: u32)
         requires { ending_of self.old.prompts prompt ≡ Some Pending }
-        ensures { self.new ≡ record self.old { prompts = with_ending self.old.prompts prompt (answered ordinal) } }
+        ensures { self.new ≡ record self.old {
+          prompts = with_ending self.old.prompts prompt
+              (answered ordinal);
+        } }
     {
         if ordinal == 0 {
             self.end(prompt, PromptTake::Cancelled);
@@ -166,7 +180,8 @@ impl PromptQueue {
     /// The prompt will have no answer.
     pub fn lose(&mut self, prompt: u32, loss: Loss)
         requires { ending_of self.old.prompts prompt ≡ Some Pending }
-        ensures { self.new ≡ record self.old { prompts = with_ending self.old.prompts prompt (Lost loss) } }
+        ensures { self.new
+            ≡ record self.old { prompts = with_ending self.old.prompts prompt (Lost loss) } }
     {
         self.end(prompt, PromptTake::Lost { loss });
     }
@@ -174,7 +189,8 @@ impl PromptQueue {
     fn end(&mut self, prompt: u32, outcome: PromptTake)
         requires led { IsTrue (is_some (prompt_of self.old.prompts prompt)) }
         requires ends { is_pending outcome ≡ false }
-        ensures { self.new ≡ record self.old { prompts = with_ending self.old.prompts prompt outcome } }
+        ensures { self.new
+            ≡ record self.old { prompts = with_ending self.old.prompts prompt outcome } }
     {
         let at = place(self.prompts.as_slice(), prompt);
         self.prompts[at].ending = outcome;
@@ -188,8 +204,8 @@ impl PromptQueue {
         self.prompts[place(self.prompts.as_slice(), prompt)].ending
     }
 
-    /// What the prompt has for the request, whichever of those who wait it is. It changes nothing, so
-    /// each takes the same.
+    /// What the prompt has for the request, whichever of those who wait it is. It changes nothing,
+    /// so each takes the same.
     pub fn take(&mut self, prompt: u32, request: u32) -> PromptTake
         requires { IsTrue (is_some (prompt_of self.old.prompts prompt)) }
         ensures taken { ending_of self.old.prompts prompt ≡ Some result }
@@ -214,7 +230,8 @@ fn place(prompts: &[Prompt], prompt: u32) -> usize
 fn open_number(rows: &[Row], prompts: &[Prompt], space: u32) -> Option<u32>
     requires kept { AreKept rows.now (reverse prompts.now) }
     requires added { space < length rows.now }
-    ensures { result ≡ option_map (λ prompt. prompt.number) (open_prompt (reverse prompts.now) space) }
+    ensures { result
+        ≡ option_map (λ prompt. prompt.number) (open_prompt (reverse prompts.now) space) }
 {
     let latest = rows[space as usize].latest;
     if latest == 0 {

@@ -12,7 +12,12 @@ use std::test::Fail;
 
 /// Three requests of space 1: the first leads, the others follow, and nothing can be taken yet.
 fn shared(rt: &impl Abort, alloc: Global) -> Result<PromptQueue, NoMemory>
-    ensures { IfOk result (λ queue. queue ≡ record { requests = 3; spaces = 2; prompts = record { number = 1; space = 1; request = 1; ending = Pending } ∷ [] }) }
+    ensures { IfOk result (λ queue. queue
+        ≡ record {
+          requests = 3;
+          spaces = 2;
+          prompts = record { number = 1; space = 1; request = 1; ending = Pending } ∷ [];
+        }) }
 {
     let mut queue = PromptQueue::new(alloc, 3)?;
     queue.add_space(1)?;

@@ -25,7 +25,8 @@ pub fn echo_all<R: Read, W: Write>(
     reader: &mut R,
     writer: &mut W,
 ) -> io::Result<Outcome>
-    ensures { IfOk result (λ outcome. IfSome (R.remaining reader.old) (λ text. IsEcho text (W.contents writer.old) (W.contents writer.new) outcome)) }
+    ensures { IfOk result (λ outcome. IfSome (R.remaining reader.old)
+        (λ text. IsEcho text (W.contents writer.old) (W.contents writer.new) outcome)) }
 {
     let mut text = Vec::new(alloc);
     reader.read_to_end(&mut text)?;

@@ -1,6 +1,7 @@
-//! The lines of a report are read: each line by itself is what is written for one thing, or nothing.
-//! A line is taken for a thing by its words, and counts only where just this line is written for that
-//! thing. That is proved of each reader; that the line of every thing is read as that thing isn't.
+//! The lines of a report are read: each line by itself is what is written for one thing, or
+//! nothing. A line is taken for a thing by its words, and counts only where just this line is
+//! written for that thing. That is proved of each reader; that the line of every thing is read as
+//! that thing isn't.
 #![tactic(auto)]
 
 mod choices;

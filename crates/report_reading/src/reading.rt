@@ -124,7 +124,8 @@ pub fn text_at(alloc: Global, number: u32, line: &[u8]) -> Result<Option<Identit
 /// The entry that the line tells.
 pub fn entry_at(alloc: Global, line: &[u8]) -> Result<Option<Entry>, NoMemory>
     ensures value { IfOk result (λ entry. entry ≡ spec.entry_at line.now) }
-    ensures fit { IfOk result (λ found. IfSome found (λ entry. IsTrue (fits entry.call entry.reply))) }
+    ensures fit { IfOk result
+        (λ found. IfSome found (λ entry. IsTrue (fits entry.call entry.reply))) }
 {
     let words = words_of(alloc, line)?;
     let entry = entry_form(words.as_slice());

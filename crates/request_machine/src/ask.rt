@@ -1,5 +1,5 @@
-//! Prompts. One that the request leads is asked of the user, and the book is told the answer, or that
-//! the prompt is lost.
+//! Prompts. One that the request leads is asked of the user, and the book is told the answer, or
+//! that the prompt is lost.
 
 ghost use Rattle.std.specs.Prelude.{◌≡◌};
 ghost use Rattle.request_machine.specs.Asking.{stage_asked, outcome_lost, unless_told};
@@ -17,7 +17,8 @@ use spaces::{Space, Target, same_target};
 
 impl Machine {
     ghost use Rattle.request_machine.specs.Work.{is_waiting};
-    ghost use Rattle.std.specs.Prelude.{false, ◌≡◌, ◌<◌, ◌∷◌, IsTrue, IsSome, Some, None, is_some, true, length, not, ◌==◌, List, Option, ℕ};
+    ghost use Rattle.std.specs.Prelude.{false, ◌≡◌, ◌<◌, ◌∷◌, IsTrue, IsSome, Some, None, is_some};
+    ghost use Rattle.std.specs.Prelude.{true, length, not, ◌==◌, List, Option, ℕ};
     ghost use Rattle.link_trait.specs.Told.{grown};
     ghost use Rattle.link_trait.specs.declared.prompts.Ask.{Ask};
     ghost use Rattle.trace_rule.specs.Settings.{Setting};
@@ -39,12 +40,13 @@ impl Machine {
         requires room { length self.old.past < 256 }
         requires stage { self.old.stage ≡ Stage.Select target space terms }
         ensures past { self.new.past
-            ≡ Event.Called (Call.Select space terms) (BookReply.Lead number ordinal) ∷ self.old.past }
+            ≡ Event.Called (Call.Select space terms) (BookReply.Lead number ordinal)
+            ∷ self.old.past }
         ensures kept { line self.new ≡ line self.old }
         ensures goes { IsTrue (goes_on (way self.old.stage) (way self.new.stage)) }
         ensures free { is_waiting self.new.stage ≡ false }
-        ensures ties { (s : Setting)
-            → IsTrue (suits s self.old.past (Call.Select space terms) (BookReply.Lead number ordinal))
+        ensures ties { (s : Setting) → IsTrue
+            (suits s self.old.past (Call.Select space terms) (BookReply.Lead number ordinal))
             → Ties s self.old → Ties s self.new }
     {
         self.push(Event::Called {
@@ -201,8 +203,8 @@ impl Machine {
     pub(crate) fn given(&mut self, prompt: Prompt, text: u32, gift: Gift, evicted: u32)
         requires room { length self.old.past < 256 }
         requires stage { self.old.stage ≡ Stage.Answer prompt text }
-        ensures past { self.new.past
-            ≡ Event.Called (Call.Answer prompt.number text prompt.terms) (BookReply.Given gift evicted) ∷ self.old.past }
+        ensures past { self.new.past ≡ Event.Called (Call.Answer prompt.number text prompt.terms)
+            (BookReply.Given gift evicted) ∷ self.old.past }
         ensures kept { line self.new ≡ line self.old }
         ensures goes { IsTrue (goes_on (way self.old.stage) (way self.new.stage)) }
         ensures free { is_waiting self.new.stage ≡ false }
@@ -224,8 +226,8 @@ impl Machine {
         self.stage = Stage::Go;
     }
 
-    /// How the request closes where it is refused: it notes what the last head carried for the target
-    /// that the last reply doesn't challenge.
+    /// How the request closes where it is refused: it notes what the last head carried for the
+    /// target that the last reply doesn't challenge.
     pub(crate) fn refused_by(&self, why: Why) -> Closing
         ensures { result ≡ refused_by self.now why }
     {
@@ -242,7 +244,8 @@ impl Machine {
         requires room { length self.old.past < 256 }
         requires stage { self.old.stage ≡ Stage.Cancel prompt }
         ensures past { self.new.past
-            ≡ Event.Called (Call.Answer prompt.number 0 prompt.terms) BookReply.Cancelled ∷ self.old.past }
+            ≡ Event.Called (Call.Answer prompt.number 0 prompt.terms) BookReply.Cancelled
+            ∷ self.old.past }
         ensures kept { line self.new ≡ line self.old }
         ensures goes { IsTrue (goes_on (way self.old.stage) (way self.new.stage)) }
         ensures free { is_waiting self.new.stage ≡ false }

@@ -1,5 +1,5 @@
-//! The first calls of the book: the request begins, and the book tells what is ready for each target
-//! before any challenge.
+//! The first calls of the book: the request begins, and the book tells what is ready for each
+//! target before any challenge.
 
 ghost use Rattle.std.specs.Prelude.{◌≡◌};
 ghost use Rattle.request_machine.specs.Told.{target_of, held_first};

@@ -1,5 +1,5 @@
-//! A challenge, by what it decides on what is held for its target: another challenge is chosen, what is
-//! held is renewed or rejected, or, in the seventeenth round, the request is refused.
+//! A challenge, by what it decides on what is held for its target: another challenge is chosen,
+//! what is held is renewed or rejected, or, in the seventeenth round, the request is refused.
 
 use crate::choose::unless_it;
 use crate::decide::Decision;
@@ -12,7 +12,8 @@ use spaces::{Target, Terms};
 
 impl Machine {
     ghost use Rattle.request_machine.specs.Work.{is_waiting};
-    ghost use Rattle.std.specs.Prelude.{false, ◌≡◌, ◌<◌, ◌≤◌, ◌∷◌, IsTrue, IfSome, Some, None, length, is_some, option_map};
+    ghost use Rattle.std.specs.Prelude.{false, ◌≡◌, ◌<◌, ◌≤◌, ◌∷◌, IsTrue, IfSome, Some, None};
+    ghost use Rattle.std.specs.Prelude.{length, is_some, option_map};
     ghost use Rattle.trace_rule.specs.Settings.{Setting};
     ghost use Rattle.trace_rule.specs.Challenges.{challenged};
     ghost use Rattle.trace_rule.specs.Traces.{can_be};
@@ -23,8 +24,8 @@ impl Machine {
     ghost use Rattle.request_machine.specs.Linked.{line, way, is_away};
     ghost use Rattle.request_machine.specs.Told.{IsReady, held_last};
 
-    /// The reply challenges the target, and decides nothing on what is held for it: that is dropped, and
-    /// a challenge is chosen.
+    /// The reply challenges the target, and decides nothing on what is held for it: that is
+    /// dropped, and a challenge is chosen.
     fn undecided(&mut self, link: u32, reply: Reply, target: Target)
         requires room { length self.old.past < 256 }
         requires stage { self.old.stage ≡ Stage.Read link }
@@ -130,8 +131,8 @@ impl Machine {
         }
     }
 
-    /// The reply challenges the target, and is the seventeenth round. Whether it decides on what is held
-    /// for the target says whether that stays; the gift of the other target is noted.
+    /// The reply challenges the target, and is the seventeenth round. Whether it decides on what is
+    /// held for the target says whether that stays; the gift of the other target is noted.
     fn last_round(&mut self, link: u32, reply: Reply, target: Target, decides: bool)
         requires room { length self.old.past < 256 }
         requires stage { self.old.stage ≡ Stage.Read link }
@@ -144,8 +145,8 @@ impl Machine {
         ensures away { IsTrue (is_away (way self.new.stage)) }
         ensures left { turns_left self.new < 3 }
         ensures free { is_waiting self.new.stage ≡ false }
-        ensures ties { (s : Setting) → is_some (decision_at self.old s.request reply target) ≡ decides
-            → challenged s reply ≡ Some target → Ties s self.old → Ties s self.new }
+        ensures ties { (s : Setting) → is_some (decision_at self.old s.request reply target)
+            ≡ decides → challenged s reply ≡ Some target → Ties s self.old → Ties s self.new }
     {
         let code = reply.code;
         self.push(Event::Replied { link, reply });

@@ -13,7 +13,8 @@ use spaces::{Target, same_target};
 
 impl Machine {
     ghost use Rattle.request_machine.specs.Work.{is_waiting, work_left};
-    ghost use Rattle.std.specs.Prelude.{false, ◌≤◌, ◌≡◌, ◌∷◌, ◌<◌, IsTrue, Some, None, length, true};
+    ghost use Rattle.std.specs.Prelude.{false, ◌≤◌, ◌≡◌, ◌∷◌, ◌<◌, IsTrue, Some, None, length};
+    ghost use Rattle.std.specs.Prelude.{true};
     ghost use Rattle.trace_rule.specs.Settings.{Setting};
     ghost use Rattle.trace_rule.specs.Traces.{suits};
     ghost use Rattle.request_machine.specs.Chosen.{IsBest};
@@ -152,8 +153,8 @@ impl Machine {
         self.choose_again();
     }
 
-    /// The best challenge of the last reply is chosen, once more. Where that challenged nobody nothing
-    /// can follow, and the request ends as for want of memory.
+    /// The best challenge of the last reply is chosen, once more. Where that challenged nobody
+    /// nothing can follow, and the request ends as for want of memory.
     pub(crate) fn choose_again(&mut self)
         ensures same { self.new ≡ record self.old {
           stage = stage_again (challenged_told self.old.is_proxied self.old.code);

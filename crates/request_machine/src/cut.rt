@@ -1,5 +1,5 @@
-//! Want of memory: from each place where it may run out, an open prompt is lost, the request is ended,
-//! and nothing else happens.
+//! Want of memory: from each place where it may run out, an open prompt is lost, the request is
+//! ended, and nothing else happens.
 
 ghost use Rattle.std.specs.Prelude.{◌≡◌};
 
@@ -42,7 +42,8 @@ impl Machine {
         requires stage { self.old.stage ≡ Stage.Spent }
         requires some { (self.old.prompt == 0) ≡ false }
         ensures past { self.new.past
-            ≡ Event.Called (Call.Lose self.old.prompt Loss.Memory) (BookReply.Lost Loss.Memory) ∷ self.old.past }
+            ≡ Event.Called (Call.Lose self.old.prompt Loss.Memory) (BookReply.Lost Loss.Memory)
+            ∷ self.old.past }
         ensures kept { line self.new ≡ line self.old }
         ensures goes { IsTrue (goes_on (way self.old.stage) (way self.new.stage)) }
         ensures free { is_waiting self.new.stage ≡ false }

@@ -1,13 +1,15 @@
-//! What a challenge decides on the gift that is held for its target: the first one of the gift's space
-//! that can be answered renews the gift where it is stale (RFC 7616 section 3.3), and else rejects it.
-//! On a Negotiate gift the first challenge of that scheme decides, by the token that it brings.
+//! What a challenge decides on the gift that is held for its target: the first one of the gift's
+//! space that can be answered renews the gift where it is stale (RFC 7616 section 3.3), and else
+//! rejects it. On a Negotiate gift the first challenge of that scheme decides, by the token that it
+//! brings.
 
 ghost use Rattle.std.specs.Prelude.{◌≡◌, IfOk, IfSome, option_and_then, option_map, find, false};
 ghost use Rattle.spaces.specs.Sites.{site, same_space};
 ghost use Rattle.trace_rule.specs.Challenges.{space_at, supported};
 ghost use Rattle.challenge_offers.specs.Offers.{offered};
 ghost use Rattle.challenge_offers.specs.Tokens.{token_offered};
-ghost use Rattle.request_machine.specs.Chosen.{stale_terms, renewed_by, decision_by, decision_on, decision_told};
+ghost use Rattle.request_machine.specs.Chosen.{stale_terms, renewed_by, decision_by, decision_on};
+ghost use Rattle.request_machine.specs.Chosen.{decision_told};
 ghost use Rattle.request_machine.specs.Told.{IsReady};
 
 use crate::holding::Holding;

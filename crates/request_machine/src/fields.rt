@@ -1,6 +1,7 @@
 //! Credential fields of the next head.
 
-ghost use Rattle.std.specs.Prelude.{◌≡◌, IfOk, IfSome, Some, option_and_then, option_map, unwrap_or, true, false};
+ghost use Rattle.std.specs.Prelude.{◌≡◌, IfOk, IfSome, Some, option_and_then, option_map};
+ghost use Rattle.std.specs.Prelude.{unwrap_or, true, false};
 ghost use Rattle.std.specs.Option.{option_copied};
 ghost use Rattle.spaces.specs.declared.space.Scheme.TheVariants.{Negotiate};
 ghost use Rattle.spaces.specs.RequestTargets.{request_target};
@@ -8,7 +9,8 @@ ghost use Rattle.digest_handler.specs.Credentials.{digest_credentials};
 ghost use Rattle.digest_handler.specs.ClientNonces.{client_nonce};
 ghost use Rattle.wire_head.specs.RequestHeads.{head};
 ghost use Rattle.negotiate_handler.specs.Tokens.{negotiate_credentials};
-ghost use Rattle.request_machine.specs.Told.{IsReady, scheme_told, is_live, unsent_told, has_unsent};
+ghost use Rattle.request_machine.specs.Told.{IsReady, scheme_told, is_live, unsent_told};
+ghost use Rattle.request_machine.specs.Told.{has_unsent};
 ghost use Rattle.request_machine.specs.Making.{field_made};
 
 use crate::holding::{Context, Holding, NamedTerms, Token};
@@ -202,8 +204,9 @@ pub(crate) fn head(
     server: &Option<Bytes>,
     keep: bool,
 ) -> Result<Bytes, NoMemory>
-    ensures { IfOk result (λ text. text ≡ head request.now.method
-        (request_target request.now.place is_proxied) request.now.place.origin proxy.now server.now keep) }
+    ensures { IfOk result (λ text. text
+        ≡ head request.now.method (request_target request.now.place is_proxied)
+        request.now.place.origin proxy.now server.now keep) }
 {
     let target = request.place.request_target(alloc, is_proxied)?;
     let origin = &request.place.origin;

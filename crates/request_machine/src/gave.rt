@@ -1,5 +1,5 @@
-//! What the caller tells a machine: the book's reply to a call, what the book has of what is held, a
-//! number, or a count. It takes no memory.
+//! What the caller tells a machine: the book's reply to a call, what the book has of what is held,
+//! a number, or a count. It takes no memory.
 
 ghost use Rattle.std.specs.Prelude.{◌≡◌};
 
@@ -36,7 +36,8 @@ impl Machine {
     ghost use Rattle.trace_rule.specs.Settings.{Setting};
     ghost use Rattle.auth_events.specs.Pages.{fits};
     ghost use Rattle.trace_rule.specs.Traces.{suits};
-    ghost use Rattle.request_machine.specs.Gives.{IsReplyTo, IsTold, IsNumberTold, AreTermsNumbered};
+    ghost use Rattle.request_machine.specs.Gives.{IsReplyTo, IsTold, IsNumberTold};
+    ghost use Rattle.request_machine.specs.Gives.{AreTermsNumbered};
     ghost use Rattle.request_machine.specs.Gives.{past_replied, past_drawn, past_given};
     ghost use Rattle.request_machine.specs.Linked.{line, way, goes_on, is_ending, IsLinked};
     ghost use Rattle.request_machine.specs.Prompted.{space_given};
@@ -44,7 +45,8 @@ impl Machine {
     ghost use Rattle.request_machine.specs.Rooms.{HasSetting};
     ghost use Rattle.request_machine.specs.Needs.{first_left};
     ghost use Rattle.request_machine.specs.Turns.{is_asking};
-    ghost use Rattle.request_machine.specs.Work.{is_waiting, is_unspent, is_answer, is_of_naming, stage_told, work_left};
+    ghost use Rattle.request_machine.specs.Work.{is_waiting, is_unspent, is_answer, is_of_naming};
+    ghost use Rattle.request_machine.specs.Work.{stage_told, work_left};
 
     /// The book replied to one of the first calls.
     fn replied_first(&mut self, call: Call, reply: BookReply)
@@ -79,7 +81,8 @@ impl Machine {
         ensures goes { IsTrue (goes_on (way self.old.stage) (way self.new.stage)) }
         ensures free { length self.old.past < length self.new.past
             → is_waiting self.new.stage ≡ false }
-        ensures ties { (s : Setting) → IsTrue (suits s self.old.past (Call.Select space terms) reply)
+        ensures ties { (s : Setting)
+            → IsTrue (suits s self.old.past (Call.Select space terms) reply)
             → Ties s self.old → Ties s self.new }
     {
         match reply {
@@ -160,7 +163,8 @@ impl Machine {
         ensures goes { IsTrue (goes_on (way self.old.stage) (way self.new.stage)) }
         ensures free { length self.old.past < length self.new.past
             → is_waiting self.new.stage ≡ false }
-        ensures ties { (s : Setting) → IsTrue (suits s self.old.past (Call.Take prompt.number) reply)
+        ensures ties { (s : Setting)
+            → IsTrue (suits s self.old.past (Call.Take prompt.number) reply)
             → Ties s self.old → Ties s self.new }
     {
         match reply {
@@ -327,8 +331,8 @@ impl Machine {
         }
     }
 
-    /// Goes on with what the caller tells of the last need. What answers no need of the stage changes
-    /// nothing.
+    /// Goes on with what the caller tells of the last need. What answers no need of the stage
+    /// changes nothing.
     #[tactic(auto, using(crate::proofs::Rooms::tied_room))]
     pub fn gave(&mut self, gave: Gave)
         requires tied { HasSetting self.old }

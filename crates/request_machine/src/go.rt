@@ -1,5 +1,5 @@
-//! The way to the next head: what the book is to tell of what is held, the link, and the counts that
-//! are drawn for it.
+//! The way to the next head: what the book is to tell of what is held, the link, and the counts
+//! that are drawn for it.
 
 ghost use Rattle.std.specs.Prelude.{◌≡◌, unwrap_or, None, IfSome};
 ghost use Rattle.request_machine.specs.Heads.{nonce_next};
@@ -19,12 +19,14 @@ use std::alloc::Global;
 
 impl Machine {
     ghost use Rattle.request_machine.specs.Work.{is_waiting, work_left};
-    ghost use Rattle.std.specs.Prelude.{◌≤◌, ◌≡◌, ◌<◌, ◌∷◌, IfSome, IfErr, OnOk, Some, None, length, false, true, ◌+◌, List, Option, IsTrue, is_some};
+    ghost use Rattle.std.specs.Prelude.{◌≤◌, ◌≡◌, ◌<◌, ◌∷◌, IfSome, IfErr, OnOk, Some, None};
+    ghost use Rattle.std.specs.Prelude.{length, false, true, ◌+◌, List, Option, IsTrue, is_some};
     ghost use Rattle.trace_rule.specs.Settings.{Setting};
     ghost use Rattle.trace_rule.specs.Telling.{dials};
     ghost use Rattle.link_trait.specs.Told.{grown};
     ghost use Rattle.link_trait.specs.declared.dialer.Dial.{Dial};
-    ghost use Rattle.request_machine.specs.Linked.{line, way, goes_on, IsLinked, IsOnlyLink, AreDialsOf, IsDriven};
+    ghost use Rattle.request_machine.specs.Linked.{line, way, goes_on, IsLinked, IsOnlyLink};
+    ghost use Rattle.request_machine.specs.Linked.{AreDialsOf, IsDriven};
     ghost use Rattle.request_machine.specs.Driven.{insides};
     ghost use Rattle.request_machine.specs.Carried.{TellsTraffic};
     ghost use Rattle.request_machine.specs.Prompted.{IsUnprompted};
@@ -229,8 +231,8 @@ impl Machine {
         self.stage = Stage::Learn(target, piece);
     }
 
-    /// The request can't go on yet with what is held: the book is to tell more of it. So far no context
-    /// begins.
+    /// The request can't go on yet with what is held: the book is to tell more of it. So far no
+    /// context begins.
     pub(crate) fn lack(&mut self, target: Target, lack: Lack)
         requires stage { self.old.stage ≡ Stage.Go }
         requires lack { Lacks lack (holding self.old target) }
@@ -259,7 +261,8 @@ impl Machine {
         }
     }
 
-    /// Whether the next head can be written over a new link; else what is lacking, and of which target.
+    /// Whether the next head can be written over a new link; else what is lacking, and of which
+    /// target.
     #[tactic(auto, using(crate::proofs::Contexts::unbound_both))]
     fn is_ready(&self) -> Result<(), (Target, Lack)>
         ensures proxy { OnOk result (IfSome self.now.proxy IsReady) }

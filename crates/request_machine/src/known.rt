@@ -1,9 +1,12 @@
 //! What a machine knows of what it holds, by what the book has told.
 
-ghost use Rattle.std.specs.Prelude.{◌≡◌, option_and_then, None, Some, true, IfSome, OnOk, IfErr, option_map};
+ghost use Rattle.std.specs.Prelude.{◌≡◌, option_and_then, None, Some, true, IfSome, OnOk, IfErr};
+ghost use Rattle.std.specs.Prelude.{option_map};
 ghost use Rattle.spaces.specs.declared.space.Scheme.TheVariants.{Negotiate};
 ghost use Rattle.request_machine.specs.Heads.{kept_drew, nonce_next};
-ghost use Rattle.request_machine.specs.Told.{scheme_told, gift_told, bare, IsReady, LacksOne, Lacks, nonce_told, with_space, with_identity, with_named};
+ghost use Rattle.request_machine.specs.Told.{scheme_told, gift_told, bare, IsReady, LacksOne};
+ghost use Rattle.request_machine.specs.Told.{Lacks, nonce_told, with_space, with_identity};
+ghost use Rattle.request_machine.specs.Told.{with_named};
 ghost use Rattle.request_machine.specs.Told.{link_told, headed_told, carried_on_told};
 
 use crate::holding::{Context, Holding, NamedTerms, Token};
@@ -142,7 +145,8 @@ pub(crate) fn link_told(held: &Option<Holding>) -> Option<u32>
     }
 }
 
-/// The same as `readiness`, of what no link is bound for. A context that has bound one can't go on yet.
+/// The same as `readiness`, of what no link is bound for. A context that has bound one can't go on
+/// yet.
 pub(crate) fn unbound_readiness(held: &Option<Holding>) -> Result<(), Lack>
     ensures ready { OnOk result (IfSome held.now IsReady) }
     ensures unbound { OnOk result (link_told held.now ≡ None) }

@@ -1,5 +1,5 @@
-//! The machine of one request: what it keeps. It is seen as a record whose fields stand for what the
-//! request's past says; the past grows by one event at a time, and no event takes memory.
+//! The machine of one request: what it keeps. It is seen as a record whose fields stand for what
+//! the request's past says; the past grows by one event at a time, and no event takes memory.
 
 ghost use Rattle.std.specs.Prelude.{◌≡◌, None};
 
@@ -85,8 +85,8 @@ impl Machine {
     ghost use Rattle.request_machine.specs.Changed.{put_held};
     ghost use Rattle.request_machine.specs.Linked.{line, first_line};
 
-    /// The machine of a request that hasn't begun, with room for 256 events. The client nonces of its
-    /// Digest credentials are made of the seed.
+    /// The machine of a request that hasn't begun, with room for 256 events. The client nonces of
+    /// its Digest credentials are made of the seed.
     pub fn new(
         alloc: Global,
         roster: &Roster,

@@ -1,5 +1,5 @@
-//! What the machine asks of its caller. What it can't ask for want of memory it doesn't ask: the request
-//! ends.
+//! What the machine asks of its caller. What it can't ask for want of memory it doesn't ask: the
+//! request ends.
 
 ghost use Rattle.std.specs.Prelude.{◌≡◌, option_map, IfOk};
 ghost use Rattle.request_machine.specs.Needs.{spent_call};

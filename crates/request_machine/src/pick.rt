@@ -1,5 +1,5 @@
-//! The challenge that is answered: the best one of the last reply. Its space and its terms are then to be
-//! named.
+//! The challenge that is answered: the best one of the last reply. Its space and its terms are then
+//! to be named.
 
 ghost use Rattle.std.specs.Prelude.{◌≡◌, Some, IfOk, IsSome, reverse};
 ghost use Rattle.std.specs.Option.{option_copied};
@@ -82,7 +82,8 @@ impl Machine {
         self.stage = Stage::NameSpace(target);
     }
 
-    /// Chooses the best challenge of the last reply. Where none can be answered the request is refused.
+    /// Chooses the best challenge of the last reply. Where none can be answered the request is
+    /// refused.
     #[tactic(auto, using(crate::proofs::Picking::reply_there, crate::proofs::Picking::site_there))]
     pub(crate) fn choose(&mut self, alloc: Global, request: &Request, target: Target)
         requires stage { self.old.stage ≡ Stage.Choose target }
@@ -126,7 +127,8 @@ fn last_reply(events: &[Event]) -> Option<&Reply>
 }
 
 fn site_at(request: &Request, target: Target, origin: &Origin) -> Result<Site, NoMemory>
-    ensures { IfOk result (λ place. place ≡ record { partition = request.now.partition; target = target; origin = origin.now }) }
+    ensures { IfOk result (λ place. place
+        ≡ record { partition = request.now.partition; target = target; origin = origin.now }) }
 {
     let partition = request.partition.clone()?;
     let origin = copy_origin(origin)?;

@@ -21,7 +21,8 @@ use wire_head::carried;
 
 impl Machine {
     ghost use Rattle.request_machine.specs.Work.{is_waiting, work_left};
-    ghost use Rattle.std.specs.Prelude.{false, ◌≡◌, ◌⊎◌, ◌<◌, ◌≤◌, ◌∷◌, IfSome, IsTrue, None, length, List, Option};
+    ghost use Rattle.std.specs.Prelude.{false, ◌≡◌, ◌⊎◌, ◌<◌, ◌≤◌, ◌∷◌, IfSome, IsTrue, None};
+    ghost use Rattle.std.specs.Prelude.{length, List, Option};
     ghost use Rattle.trace_rule.specs.Settings.{Setting};
     ghost use Rattle.trace_rule.specs.Traces.{can_be};
     ghost use Rattle.trace_rule.specs.Challenges.{challenged};
@@ -37,7 +38,8 @@ impl Machine {
     ghost use Rattle.request_machine.specs.Driven.{insides};
     ghost use Rattle.request_machine.specs.Kept.{Ties, IsTied, IsLinkOpen};
     ghost use Rattle.request_machine.specs.Turns.{opened_without, turns_left};
-    ghost use Rattle.request_machine.specs.Linked.{line, way, is_away, IsLinked, IsOnlyLink, AreDialsOf, IsDriven};
+    ghost use Rattle.request_machine.specs.Linked.{line, way, is_away, IsLinked, IsOnlyLink};
+    ghost use Rattle.request_machine.specs.Linked.{AreDialsOf, IsDriven};
 
     /// Reads over the open link.
     pub(crate) fn read_link<D: Dialer>(

@@ -1,5 +1,6 @@
-//! Terms that a gift is given anew: those of a stale challenge, and, at the end, the terms that it went
-//! out with under the nonce that the last reply gave for the next request (RFC 7616 section 3.5).
+//! Terms that a gift is given anew: those of a stale challenge, and, at the end, the terms that it
+//! went out with under the nonce that the last reply gave for the next request (RFC 7616 section
+//! 3.5).
 
 ghost use Rattle.std.specs.Prelude.{◌≡◌, IfOk, option_and_then};
 ghost use Rattle.trace_rule.specs.NextNonces.{first_next};
@@ -27,7 +28,8 @@ pub(crate) struct Renewal {
 
 impl Machine {
     ghost use Rattle.request_machine.specs.Work.{is_waiting, work_left};
-    ghost use Rattle.std.specs.Prelude.{false, ◌≤◌, ◌≡◌, ◌<◌, ◌∷◌, IsTrue, IsSome, IfOk, Some, None, length, true};
+    ghost use Rattle.std.specs.Prelude.{false, ◌≤◌, ◌≡◌, ◌<◌, ◌∷◌, IsTrue, IsSome, IfOk, Some};
+    ghost use Rattle.std.specs.Prelude.{None, length, true};
     ghost use Rattle.trace_rule.specs.Holding.{last_reply};
     ghost use Rattle.request_machine.specs.Renewals.{renewal_at};
     ghost use Rattle.trace_rule.specs.Settings.{Setting};

@@ -18,7 +18,8 @@ use std::alloc::Global;
 
 impl Machine {
     ghost use Rattle.request_machine.specs.Work.{is_waiting, work_left};
-    ghost use Rattle.std.specs.Prelude.{◌≡◌, ◌≢◌, ◌<◌, ◌≤◌, ◌∷◌, IfOk, IfSome, None, length, true, false, IsTrue, List, Option, option_map, option_and_then};
+    ghost use Rattle.std.specs.Prelude.{◌≡◌, ◌≢◌, ◌<◌, ◌≤◌, ◌∷◌, IfOk, IfSome, None, length, true};
+    ghost use Rattle.std.specs.Prelude.{false, IsTrue, List, Option, option_map, option_and_then};
     ghost use Rattle.trace_rule.specs.Settings.{Setting};
     ghost use Rattle.trace_rule.specs.Telling.{dials};
     ghost use Rattle.link_trait.specs.Told.{grown};
@@ -33,7 +34,8 @@ impl Machine {
     ghost use Rattle.request_machine.specs.Heads.{bound_told, keeps_told, head_told};
     ghost use Rattle.request_machine.specs.Told.{gift_told, headed_told};
     ghost use Rattle.request_machine.specs.Turns.{is_asking, turns_left};
-    ghost use Rattle.request_machine.specs.Linked.{line, way, goes_on, is_ending, IsLinked, IsOnlyLink, AreDialsOf, IsDriven};
+    ghost use Rattle.request_machine.specs.Linked.{line, way, goes_on, is_ending, IsLinked};
+    ghost use Rattle.request_machine.specs.Linked.{IsOnlyLink, AreDialsOf, IsDriven};
 
     /// The bytes of the next head.
     pub(crate) fn next_head(&self, alloc: Global, request: &Request) -> Result<Bytes, NoMemory>

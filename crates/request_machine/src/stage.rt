@@ -69,8 +69,8 @@ pub enum Stage {
     Renew(Target, Gift, u32),
     /// The link's reply is read.
     Read(u32),
-    /// The nonce that the last reply gives the target for the next request is looked for, before the
-    /// calls at the end.
+    /// The nonce that the last reply gives the target for the next request is looked for, before
+    /// the calls at the end.
     NextNonce(Target, Closing),
     /// The terms with that nonce are to be named, for the gift that is held for the target.
     NameLast(Target, Gift, Closing),

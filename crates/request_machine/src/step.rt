@@ -1,5 +1,5 @@
-//! The one call that drives a request: all work up to the next thing that the book or the words must
-//! tell.
+//! The one call that drives a request: all work up to the next thing that the book or the words
+//! must tell.
 
 use crate::gear::Gear;
 use crate::machine::Machine;
@@ -10,7 +10,8 @@ use spaces::Roster;
 use std::alloc::Global;
 
 impl Machine {
-    ghost use Rattle.std.specs.Prelude.{◌≡◌, ◌≤◌, ◌⊎◌, None, Some, IsSome, true, false, List, Option};
+    ghost use Rattle.std.specs.Prelude.{◌≡◌, ◌≤◌, ◌⊎◌, None, Some, IsSome, true, false, List};
+    ghost use Rattle.std.specs.Prelude.{Option};
     ghost use Rattle.spaces.specs.Sites.{numbered};
     ghost use Rattle.trace_rule.specs.Settings.{Setting};
     ghost use Rattle.trace_rule.specs.Telling.{dials};
@@ -21,18 +22,20 @@ impl Machine {
     ghost use Rattle.link_trait.specs.declared.dialer.Traffic.{Traffic};
     ghost use Rattle.link_trait.specs.declared.prompts.Ask.{Ask};
     ghost use Rattle.request_machine.specs.Carried.{IsCarried};
-    ghost use Rattle.request_machine.specs.Failed.{link_faults, ask_faults, TellsLinkFaults, TellsAskFaults};
+    ghost use Rattle.request_machine.specs.Failed.{link_faults, ask_faults, TellsLinkFaults};
+    ghost use Rattle.request_machine.specs.Failed.{TellsAskFaults};
     ghost use Rattle.request_machine.specs.Prompted.{IsPrompted};
     ghost use Rattle.request_machine.specs.Kept.{Ties, IsSettingOf};
     ghost use Rattle.request_machine.specs.Needs.{need_at, IsWantedAt};
     ghost use Rattle.request_machine.specs.Rooms.{HasSettingIn};
     ghost use Rattle.request_machine.specs.Turns.{is_asking, IsStill};
     ghost use Rattle.request_machine.specs.Work.{is_waiting, is_unspent, work_left};
-    ghost use Rattle.request_machine.specs.Linked.{way, line, is_ending, of_others, IsLinked, IsOnlyLink, AreDialsOf};
+    ghost use Rattle.request_machine.specs.Linked.{way, line, is_ending, of_others, IsLinked};
+    ghost use Rattle.request_machine.specs.Linked.{IsOnlyLink, AreDialsOf};
 
     /// Goes on with the request up to what the book or the words must tell next, or to its end. The
-    /// roster is the one of which the machine was made. Of the request's links only the machine's own
-    /// may be open, and none may have been dialed that the machine did not dial.
+    /// roster is the one of which the machine was made. Of the request's links only the machine's
+    /// own may be open, and none may have been dialed that the machine did not dial.
     pub fn step<D: Dialer, T: Tokens, P: Prompter>(
         &mut self,
         alloc: Global,

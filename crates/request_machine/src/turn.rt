@@ -11,7 +11,8 @@ use std::alloc::Global;
 
 impl Machine {
     ghost use Rattle.request_machine.specs.Work.{is_waiting, work_left, is_unspent};
-    ghost use Rattle.std.specs.Prelude.{◌≤◌, ◌≡◌, ◌<◌, None, IsTrue, is_some, true, false, List, Option, ℕ};
+    ghost use Rattle.std.specs.Prelude.{◌≤◌, ◌≡◌, ◌<◌, None, IsTrue, is_some, true, false, List};
+    ghost use Rattle.std.specs.Prelude.{Option, ℕ};
     ghost use Rattle.trace_rule.specs.Settings.{Setting};
     ghost use Rattle.trace_rule.specs.Traces.{is_spent};
     ghost use Rattle.trace_rule.specs.Telling.{dials};
@@ -21,13 +22,16 @@ impl Machine {
     ghost use Rattle.link_trait.specs.declared.dialer.Traffic.{Traffic};
     ghost use Rattle.link_trait.specs.declared.links.LinkName.{LinkName};
     ghost use Rattle.request_machine.specs.Carried.{IsCarried, TellsTraffic};
-    ghost use Rattle.request_machine.specs.Failed.{link_faults, ask_faults, TellsLinkFaults, TellsAskFaults};
+    ghost use Rattle.request_machine.specs.Failed.{link_faults, ask_faults, TellsLinkFaults};
+    ghost use Rattle.request_machine.specs.Failed.{TellsAskFaults};
     ghost use Rattle.request_machine.specs.Prompted.{TellsPrompts};
     ghost use Rattle.request_machine.specs.Kept.{Ties};
     ghost use Rattle.request_machine.specs.Needs.{need_at, IsWantedAt};
     ghost use Rattle.request_machine.specs.Rooms.{HasSettingOf};
-    ghost use Rattle.request_machine.specs.Turns.{is_asking, is_going, turns_left, opened_without, IsLinkKept, IsStill};
-    ghost use Rattle.request_machine.specs.Linked.{way, goes_on, is_ending, line, IsLinked, IsOnlyLink, AreDialsOf, IsDriven};
+    ghost use Rattle.request_machine.specs.Turns.{is_asking, is_going, turns_left, opened_without};
+    ghost use Rattle.request_machine.specs.Turns.{IsLinkKept, IsStill};
+    ghost use Rattle.request_machine.specs.Linked.{way, goes_on, is_ending, line, IsLinked};
+    ghost use Rattle.request_machine.specs.Linked.{IsOnlyLink, AreDialsOf, IsDriven};
 
     /// Does what comes next, where the machine goes on by itself.
     pub(crate) fn turn<D: Dialer, P: Prompter>(
@@ -162,8 +166,8 @@ impl Machine {
         }
     }
 
-    /// What is asked of the caller, with the link closed where nothing follows on it; nothing where the
-    /// machine goes on by itself.
+    /// What is asked of the caller, with the link closed where nothing follows on it; nothing where
+    /// the machine goes on by itself.
     #[tactic(auto, using(crate::proofs::Driving::linked_on, crate::proofs::Needing::wanted_now))]
     pub(crate) fn next_need<D: Dialer>(&mut self, dialer: &mut D) -> Option<Need>
         requires linked { IsLinked self.old }

@@ -1,6 +1,7 @@
 //! The calls of a request that one caller serves. Each law is the contract of an empty function.
 
-ghost use Rattle.serving_laws.specs.Laws.{NextAnswersAreAllowed, NextCallsAreAllowed, NextRepliesAreTaken, NextTextsAreTaken, NothingIsPending};
+ghost use Rattle.serving_laws.specs.Laws.{NextAnswersAreAllowed, NextCallsAreAllowed};
+ghost use Rattle.serving_laws.specs.Laws.{NextRepliesAreTaken, NextTextsAreTaken, NothingIsPending};
 
 /// A call that comes next may be asked of the book.
 pub fn next_calls_are_allowed()
@@ -17,8 +18,8 @@ pub fn nothing_is_pending()
     ensures { NothingIsPending }
 {}
 
-/// The book's reply to a call that comes next is one that the rule takes, by all that the book knows
-/// with it.
+/// The book's reply to a call that comes next is one that the rule takes, by all that the book
+/// knows with it.
 pub fn next_replies_are_taken()
     ensures { NextRepliesAreTaken }
 {}

@@ -1,6 +1,7 @@
 //! How a request that one caller serves ends. Each law is the contract of an empty function.
 
-ghost use Rattle.serving_laws.specs.Laws.{NoPromptStaysOpen, OpenPromptsMayBeLost, SpentRequestsMayEnd};
+ghost use Rattle.serving_laws.specs.Laws.{NoPromptStaysOpen, OpenPromptsMayBeLost};
+ghost use Rattle.serving_laws.specs.Laws.{SpentRequestsMayEnd};
 
 /// Where memory may run out, the prompt that the request leads may be lost.
 pub fn open_prompts_may_be_lost()

@@ -1,7 +1,7 @@
-//! What holds where one caller serves a request, with nobody beside it: what the rule of the request
-//! wants may be asked of its book, what the book tells is what the rule takes, by all that is named
-//! and given later too, and the names, the counts and the prompts of the request stay within what the
-//! book and the words have for it.
+//! What holds where one caller serves a request, with nobody beside it: what the rule of the
+//! request wants may be asked of its book, what the book tells is what the rule takes, by all that
+//! is named and given later too, and the names, the counts and the prompts of the request stay
+//! within what the book and the words have for it.
 #![tactic(auto)]
 
 mod calls;

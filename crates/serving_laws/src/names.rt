@@ -1,16 +1,17 @@
 //! What a request that one caller serves reads and names. Each law is the contract of an empty
 //! function.
 
-ghost use Rattle.serving_laws.specs.Laws.{MetNamesAreUsed, NamesJoin, RequestsAreLeft, TermsAreLeft, WhatIsHeldIsRead};
+ghost use Rattle.serving_laws.specs.Laws.{MetNamesAreUsed, NamesJoin, RequestsAreLeft};
+ghost use Rattle.serving_laws.specs.Laws.{TermsAreLeft, WhatIsHeldIsRead};
 
-/// The space, the identity and the terms of what the request holds may be read of the book, and stay
-/// what they are.
+/// The space, the identity and the terms of what the request holds may be read of the book, and
+/// stay what they are.
 pub fn what_is_held_is_read()
     ensures { WhatIsHeldIsRead }
 {}
 
-/// Where a call comes next that gives terms, fewer than 16 gave them before: so there is a nonce left
-/// of the 16 that a request has.
+/// Where a call comes next that gives terms, fewer than 16 gave them before: so there is a nonce
+/// left of the 16 that a request has.
 pub fn terms_are_left()
     ensures { TermsAreLeft }
 {}

@@ -7,8 +7,8 @@ pub fn books_know_themselves()
     ensures { BooksKnowThemselves }
 {}
 
-/// A setting that knows a book with more names and entries knows it as it was: so what holds by each
-/// setting that knows the book goes on to hold.
+/// A setting that knows a book with more names and entries knows it as it was: so what holds by
+/// each setting that knows the book goes on to hold.
 pub fn what_is_known_was_known()
     ensures { WhatIsKnownWasKnown }
 {}

@@ -177,7 +177,8 @@ fn requested(
     url: &[u8],
     proxy: Option<Origin>,
 ) -> Result<Line, LineFault>
-    ensures value { GivesBy LineFault.NoMemory (λ l. l) result (spec.requested method.now name.now url.now proxy) }
+    ensures value { GivesBy LineFault.NoMemory
+        (λ l. l) result (spec.requested method.now name.now url.now proxy) }
     ensures right { IfOk result IsRight }
 {
     let method = method_of(method)?;
@@ -284,7 +285,8 @@ fn space(
     scheme: &[u8],
     realm: &[u8],
 ) -> Result<Space, LineFault>
-    ensures { GivesBy LineFault.NoMemory (λ s. s) result (spec.space name.now target.now url.now scheme.now realm.now) }
+    ensures { GivesBy LineFault.NoMemory
+        (λ s. s) result (spec.space name.now target.now url.now scheme.now realm.now) }
 {
     let partition = partition_in(alloc, name)?;
     let target = target_of(target)?;
@@ -398,8 +400,8 @@ fn is_passed(text: &[u8]) -> bool
     }
 }
 
-/// Reads a line. The place of a request is the one that its text reads as, and a provider's step is an
-/// answer.
+/// Reads a line. The place of a request is the one that its text reads as, and a provider's step is
+/// an answer.
 pub fn read_line(alloc: Global, text: &[u8]) -> Result<Line, LineFault>
     ensures value { GivesBy LineFault.NoMemory (λ l. l) result (spec.line text.now) }
     ensures right { IfOk result IsRight }

@@ -1,6 +1,7 @@
 //! The session: its lines are read once, in order, and each is judged by those before it.
 
-ghost use Rattle.std.specs.Prelude.{◌≡◌, ◌≤◌, ◌++◌, ◌∷◌, [], length, All, IfOk, IsTrue, None, Some, if◌then◌else◌};
+ghost use Rattle.std.specs.Prelude.{◌≡◌, ◌≤◌, ◌++◌, ◌∷◌, [], length, All, IfOk, IsTrue, None, Some};
+ghost use Rattle.std.specs.Prelude.{if◌then◌else◌};
 ghost use Rattle.auth_text.specs.Gives.{GivesBy};
 ghost use Rattle.link_trait.specs.Tokens.{are_answered};
 ghost use Rattle.spaces.specs.Places.{IsPlaced};
@@ -103,7 +104,8 @@ fn workers_fault(number: u32, reading: &Reading, workers: u32) -> Option<Session
 }
 
 fn request_fault(number: u32, reading: &Reading) -> Option<SessionFault>
-    ensures { (request : Request) → result ≡ spec.fault_in number reading.now (Line.Request request) }
+    ensures { (request : Request)
+        → result ≡ spec.fault_in number reading.now (Line.Request request) }
 {
     if reading.begun && reading.roster.requests.len() >= 2048 {
         return Some(SessionFault::TooMany {
@@ -173,7 +175,8 @@ fn after_text(
     reading: Reading,
     text: &[u8],
 ) -> Result<Reading, SessionFault>
-    ensures value { GivesBy SessionFault.NoMemory (λ r. r) result (spec.after_text number reading text.now) }
+    ensures value { GivesBy SessionFault.NoMemory
+        (λ r. r) result (spec.after_text number reading text.now) }
     ensures playable { IsPlayable reading → IfOk result IsPlayable }
 {
     let line = match read_line(alloc, text) {
@@ -204,8 +207,8 @@ fn finished(reading: Reading) -> Session
 
 /// Reads a session. The first line at fault decides: `TooMany` where it is the 2,049th request or
 /// asks for more than 16 workers, else `BadLine`. A text without any line that says something is at
-/// fault behind its last line. The place of each request is the one that its text reads as, and no step
-/// of a provider is a failure or want of memory.
+/// fault behind its last line. The place of each request is the one that its text reads as, and no
+/// step of a provider is a failure or want of memory.
 pub fn read_session(alloc: Global, text: &[u8]) -> Result<Session, SessionFault>
     requires { length text.now ≤ 4194304 }
     ensures session { GivesBy SessionFault.NoMemory (λ s. s) result (session text.now) }

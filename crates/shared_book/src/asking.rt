@@ -1,6 +1,7 @@
 //! The naming and the reading calls of a shared book, one turn each.
 
-ghost use Rattle.std.specs.Prelude.{◌≡◌, ◌∷◌, [], IsTrue, IfOk, OnErr, OnOk, Some, is_some, length, option_map};
+ghost use Rattle.std.specs.Prelude.{◌≡◌, ◌∷◌, [], IsTrue, IfOk, OnErr, OnOk, Some, is_some, length};
+ghost use Rattle.std.specs.Prelude.{option_map};
 ghost use mathlib.Core.List.{IsPrefix};
 ghost use Rattle.spaces.specs.Sites.{numbered};
 ghost use Rattle.auth_events.specs.Identities.{giving, identity};
@@ -57,8 +58,8 @@ impl<B: Controller> SharedBook<B> {
         ensures number { IfOk result.1 (λ numbers.
             numbered (names_told result.0.seen).terms numbers.terms
             ≡ Some (record { space = space; terms = terms.now; nonce = numbers.nonce })) }
-        ensures named { OnOk result.1
-            (HasNamed (λ names. told_terms caller.number names [] space terms.now) caller result.0) }
+        ensures named { OnOk result.1 (HasNamed
+            (λ names. told_terms caller.number names [] space terms.now) caller result.0) }
         ensures mine_err { OnErr result.1 (result.0.mine ≡ caller.mine) }
         ensures seen { IsPrefix caller.seen result.0.seen }
         ensures same { IsSameCaller caller result.0 }
@@ -97,8 +98,9 @@ impl<B: Controller> SharedBook<B> {
         requires caller { IsCallerOf self.now caller }
         requires given { IsTrue (is_some (giving (past caller.seen) gift)) }
         ensures caller { IsCallerOf self.now result.0 }
-        ensures identity { IfOk result.1 (λ found.
-            identity self.now.roster (names_told caller.seen) (past caller.seen) gift ≡ Some found) }
+        ensures identity { IfOk result.1
+            (λ found. identity self.now.roster (names_told caller.seen) (past caller.seen) gift
+            ≡ Some found) }
         ensures seen { IsPrefix caller.seen result.0.seen }
         ensures mine { result.0.mine ≡ caller.mine }
         ensures same { IsSameCaller caller result.0 }
@@ -116,9 +118,8 @@ impl<B: Controller> SharedBook<B> {
         requires caller { IsCallerOf self.now caller }
         requires named { IsTrue (is_some (numbered (names_told caller.seen).terms terms)) }
         ensures caller { IsCallerOf self.now result.0 }
-        ensures terms { IfOk result.1 (λ found.
-            option_map (λ name. (name.terms, name.nonce)) (numbered (names_told caller.seen).terms terms)
-            ≡ Some found) }
+        ensures terms { IfOk result.1 (λ found. option_map (λ name. (name.terms, name.nonce))
+            (numbered (names_told caller.seen).terms terms) ≡ Some found) }
         ensures seen { IsPrefix caller.seen result.0.seen }
         ensures mine { result.0.mine ≡ caller.mine }
         ensures same { IsSameCaller caller result.0 }

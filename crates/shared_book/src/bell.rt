@@ -1,5 +1,5 @@
-//! A bell that is rung where a prompt is answered or lost. Those who wait for an answer sleep on it.
-//! No contract rests on it.
+//! A bell that is rung where a prompt is answered or lost. Those who wait for an answer sleep on
+//! it. No contract rests on it.
 
 use std::sync::{Condvar, Mutex, Wait};
 

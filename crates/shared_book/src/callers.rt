@@ -1,7 +1,8 @@
-//! The callers of a shared book as a list. It keeps its room, so that a caller that was taken out can
-//! always be put back.
+//! The callers of a shared book as a list. It keeps its room, so that a caller that was taken out
+//! can always be put back.
 
-ghost use Rattle.std.specs.Prelude.{◌≡◌, ◌<◌, ◌≤◌, [], ◌∷◌, ◌++◌, length, MatchOption, OnSome, OnOk, OnErr, IfErr, IsOk, slice_get};
+ghost use Rattle.std.specs.Prelude.{◌≡◌, ◌<◌, ◌≤◌, [], ◌∷◌, ◌++◌, length, MatchOption, OnSome};
+ghost use Rattle.std.specs.Prelude.{OnOk, OnErr, IfErr, IsOk, slice_get};
 ghost use Rattle.std.specs.Option.{option_copied};
 
 use crate::caller::Caller;

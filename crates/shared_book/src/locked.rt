@@ -1,7 +1,8 @@
-//! What lies behind the turn lock: the book, and the seat that retires the nonces that it takes out.
-//! What is done in one turn is done here, by methods that take the whole and give it back.
+//! What lies behind the turn lock: the book, and the seat that retires the nonces that it takes
+//! out. What is done in one turn is done here, by methods that take the whole and give it back.
 
-ghost use Rattle.std.specs.Prelude.{◌≡◌, ℕ, ◌+◌, ◌*◌, ◌^◌, ◌<◌, ◌≤◌, ◌==◌, if◌then◌else◌, IsTrue, IfOk, OnErr, OnOk, [], ◌++◌, length, sum};
+ghost use Rattle.std.specs.Prelude.{◌≡◌, ℕ, ◌+◌, ◌*◌, ◌^◌, ◌<◌, ◌≤◌, ◌==◌, if◌then◌else◌, IsTrue};
+ghost use Rattle.std.specs.Prelude.{IfOk, OnErr, OnOk, [], ◌++◌, length, sum};
 ghost use Rattle.nonce_words.specs.Views.{epoch_at};
 ghost use Rattle.auth_events.specs.Book.{allowed, answer, epoch};
 ghost use Rattle.auth_events.specs.Told.{journal, past, told_after};
@@ -18,8 +19,8 @@ use nonce_words::{BookSeat, DrawSeat, NonceWords};
 use spaces::Roster;
 use turnstile::{TableName, Told};
 
-/// What no turn changes: the book's roster, the number of callers, and which words are the book's. No
-/// value of it is made.
+/// What no turn changes: the book's roster, the number of callers, and which words are the book's.
+/// No value of it is made.
 pub struct Fixed {
     pub roster: Roster,
     pub callers: u32,
@@ -97,15 +98,16 @@ impl<B: Controller> Locked<B> {
         requires own { caller ≡ owner self.callers request }
         requires allowed { IsTrue (allowed (B.roster self.book) (B.names self.book)
             (past (B.told self.book)) caller request call) }
-        ensures reply { result.1
-            ≡ answer (B.roster self.book) (B.names self.book) (past (B.told self.book)) request call }
+        ensures reply { result.1 ≡ answer
+            (B.roster self.book) (B.names self.book) (past (B.told self.book)) request call }
         ensures told { B.told result.0.book ≡ told_after (B.told self.book)
             (record { caller = caller; request = request; call = call; reply = result.1 }) }
         ensures roster { B.roster result.0.book ≡ B.roster self.book }
         ensures fixed { IsFixed self.callers self.seat.table result.0.callers result.0.seat.table }
         ensures seat { IsInformed seat.old seat.new }
         ensures knows { (n : ℕ) → 0 < n
-            → epoch (B.names result.0.book) (past (B.told result.0.book)) n ≤ epoch_at seat.new.known n }
+            → epoch (B.names result.0.book) (past (B.told result.0.book)) n
+            ≤ epoch_at seat.new.known n }
     {
         let Locked {
             mut book,
@@ -183,7 +185,8 @@ impl<B: Controller> Locked<B> {
         ensures fixed { IsFixed self.callers self.seat.table result.0.callers result.0.seat.table }
         ensures seat { IsInformed seat.old seat.new }
         ensures knows { (n : ℕ) → 0 < n
-            → epoch (B.names result.0.book) (past (B.told result.0.book)) n ≤ epoch_at seat.new.known n }
+            → epoch (B.names result.0.book) (past (B.told result.0.book)) n
+            ≤ epoch_at seat.new.known n }
     {
         let Locked {
             mut book,

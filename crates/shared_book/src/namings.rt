@@ -1,13 +1,15 @@
 //! The namings of a book: each tells one new name at most, which is the caller's.
 
-ghost use Rattle.std.specs.Prelude.{◌≡◌, ◌++◌, ◌∷◌, [], ◌*◌, ◌<◌, ℕ, List, IfOk, IsTrue, OnErr, OnOk, Some, length};
+ghost use Rattle.std.specs.Prelude.{◌≡◌, ◌++◌, ◌∷◌, [], ◌*◌, ◌<◌, ℕ, List, IfOk, IsTrue, OnErr};
+ghost use Rattle.std.specs.Prelude.{OnOk, Some, length};
 ghost use Rattle.spaces.specs.Sites.{numbered};
 ghost use Rattle.auth_events.specs.Tables.{Tables, is_home};
 ghost use Rattle.auth_events.specs.Told.{MayNameSpace, MayNameTerms, told_space, told_terms};
 ghost use Rattle.auth_events.specs.declared.told.Told.{Told};
 ghost use Rattle.auth_events.specs.declared.told.Told.TheVariants.{TextNamed};
 ghost use Rattle.book_laws.specs.Owners.{items_of};
-ghost use Rattle.book_laws.specs.Shares.{HasSpaceLeft, HasTermsLeft, HasTextLeft, IsNamedBy, IsWithinShares};
+ghost use Rattle.book_laws.specs.Shares.{HasSpaceLeft, HasTermsLeft, HasTextLeft, IsNamedBy};
+ghost use Rattle.book_laws.specs.Shares.{IsWithinShares};
 
 use auth_events::{Controller, TermsRef};
 use auth_text::{Identity, NoMemory};
@@ -69,10 +71,10 @@ pub(crate) struct TermsNo<'a> {
 impl<'a, B: Controller> Naming<B> for TermsNo<'a> {
     type Number = TermsRef;
 
-    ghost needs = { λ self book caller.
-        IsTrue (is_home (B.names book) self.space self.terms.now)
+    ghost needs = { λ self book caller. IsTrue (is_home (B.names book) self.space self.terms.now)
         × MayNameTerms (B.roster book) (B.names book) self.space self.terms.now
-        × HasTermsLeft caller (items_of caller (B.told book)) (B.told book) self.space self.terms.now };
+        × HasTermsLeft caller
+        (items_of caller (B.told book)) (B.told book) self.space self.terms.now };
 
     ghost news = { λ self caller names. told_terms caller names [] self.space self.terms.now };
 

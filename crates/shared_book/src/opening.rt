@@ -1,7 +1,8 @@
 //! How a shared book is opened: the words, the lock round the book, and a caller for each pass; and
 //! how it is closed again.
 
-ghost use Rattle.std.specs.Prelude.{◌≡◌, ℕ, ◌+◌, ◌*◌, ◌^◌, ◌≤◌, ◌++◌, ◌∷◌, [], All, List, IfErr, IfOk, length, vec_capacity, vec_len};
+ghost use Rattle.std.specs.Prelude.{◌≡◌, ℕ, ◌+◌, ◌*◌, ◌^◌, ◌≤◌, ◌++◌, ◌∷◌, [], All, List, IfErr};
+ghost use Rattle.std.specs.Prelude.{IfOk, length, vec_capacity, vec_len};
 ghost use Rattle.nonce_words.specs.Fresh.{IsFresh};
 ghost use Rattle.turnstile.specs.Passes.{AreNewPasses, IsOf};
 ghost use Rattle.auth_events.specs.Book.{IsLegal, epoch};
@@ -111,8 +112,8 @@ fn gather<B: Controller>(
 }
 
 impl<B: Controller> SharedBook<B> {
-    /// A book that this many callers share. They are numbered from 1, and number 1 is the last of the
-    /// list, which `pop` takes out first. The nonces are 16 for each request of the book.
+    /// A book that this many callers share. They are numbered from 1, and number 1 is the last of
+    /// the list, which `pop` takes out first. The nonces are 16 for each request of the book.
     pub fn new(
         alloc: Global,
         book: B,
@@ -173,10 +174,10 @@ impl<B: Controller> SharedBook<B> {
         }
     }
 
-    /// Gives the book up, once all callers are back. It tells all that any caller has seen, and each
-    /// caller's own items are those of its number. Of each nonce the counts that were drawn are 1 to
-    /// some number, each once, their epochs don't fall as the counts rise, and none is above the
-    /// journal's. What each partition has alone of the journal is legal by itself.
+    /// Gives the book up, once all callers are back. It tells all that any caller has seen, and
+    /// each caller's own items are those of its number. Of each nonce the counts that were drawn
+    /// are 1 to some number, each once, their epochs don't fall as the counts rise, and none is
+    /// above the journal's. What each partition has alone of the journal is legal by itself.
     pub fn close(self, callers: Callers<B>) -> B
         requires all { length callers.list ≡ self.callers }
         requires callers { All (IsCallerOf self) callers.list }

@@ -9,8 +9,8 @@ use auth_events::{Controller, Gift};
 use auth_text::{Identity, NoMemory};
 use spaces::{Space, Terms};
 
-/// A reading of a book in one turn. The space and the terms of a number and the identity of a gift are
-/// such readings. Users may write others.
+/// A reading of a book in one turn. The space and the terms of a number and the identity of a gift
+/// are such readings. Users may write others.
 pub trait Reading<B: Controller> {
     /// What is read.
     type Found;

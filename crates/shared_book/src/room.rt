@@ -1,5 +1,5 @@
-//! Room for the callers' passes, which is taken when a shared book is opened, so that closing it takes
-//! no memory.
+//! Room for the callers' passes, which is taken when a shared book is opened, so that closing it
+//! takes no memory.
 
 ghost use Rattle.std.specs.Prelude.{◌≡◌, ◌≤◌, []};
 

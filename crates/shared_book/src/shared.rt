@@ -1,13 +1,15 @@
-//! The shared book: each call of a caller is one turn, and each draw is one step on a word without a
-//! turn.
+//! The shared book: each call of a caller is one turn, and each draw is one step on a word without
+//! a turn.
 
-ghost use Rattle.std.specs.Prelude.{false, ◌≡◌, ℕ, ◌-◌, ◌<◌, ◌≤◌, ◌++◌, ◌∷◌, [], IsTrue, IfOk, OnErr, OnOk};
+ghost use Rattle.std.specs.Prelude.{false, ◌≡◌, ℕ, ◌-◌, ◌<◌, ◌≤◌, ◌++◌, ◌∷◌, [], IsTrue, IfOk};
+ghost use Rattle.std.specs.Prelude.{OnErr, OnOk};
 ghost use mathlib.Core.List.{IsPrefix};
 ghost use Rattle.auth_events.specs.Book.{allowed, epoch};
 ghost use Rattle.auth_events.specs.Told.{is_pending, names_told, past};
 ghost use Rattle.auth_events.specs.declared.journal.Call.TheVariants.{Take};
 ghost use Rattle.book_laws.specs.Owners.{owner};
-ghost use Rattle.shared_book.specs.Callers.{HadTurn, HasDrawn, HasNamed, IsAllowed, IsBookOf, IsCallerOf, IsSameCaller, epoch_seen};
+ghost use Rattle.shared_book.specs.Callers.{HadTurn, HasDrawn, HasNamed, IsAllowed, IsBookOf};
+ghost use Rattle.shared_book.specs.Callers.{IsCallerOf, IsSameCaller, epoch_seen};
 
 use crate::bell::Bell;
 use crate::caller::Caller;
@@ -32,8 +34,8 @@ pub struct NotShared<B> {
 pub struct SharedBook<B: Controller> {
     pub(crate) turnstile: Turnstile<Locked<B>>,
     pub(crate) words: NonceWords,
-    // For the callers' passes, when the book is closed. It lies under a lock so that threads may share
-    // the shared book where the book in it may only be sent.
+    // For the callers' passes, when the book is closed. It lies under a lock so that threads may
+    // share the shared book where the book in it may only be sent.
     pub(crate) room: Mutex<Room<B>>,
     pub(crate) bell: Bell,
     pub(crate) callers: u32,

@@ -1,5 +1,5 @@
-//! Copies of what a request, a link or a book keeps of its own: each is equal to what was copied, or
-//! there was no memory.
+//! Copies of what a request, a link or a book keeps of its own: each is equal to what was copied,
+//! or there was no memory.
 
 ghost use Rattle.std.specs.Prelude.{◌≡◌, IfOk};
 

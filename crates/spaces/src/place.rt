@@ -90,7 +90,8 @@ fn copy(alloc: Global, text: &str) -> Result<Bytes, PlaceFault>
 }
 
 fn decoded(alloc: Global, text: &str) -> Result<Vec<u8>, PlaceFault>
-    ensures { GivesBy PlaceFault.NoMemory (λ bytes. bytes.items) result (Ok (percent_decode text.now)) }
+    ensures { GivesBy PlaceFault.NoMemory
+        (λ bytes. bytes.items) result (Ok (percent_decode text.now)) }
 {
     let mut out = Vec::new(alloc);
     match percent_decode(text.as_bytes()).append_to(&mut out) {

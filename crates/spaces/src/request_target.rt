@@ -1,7 +1,8 @@
 //! The target in a request line: neither the fragment nor the identity of a URL goes out in it.
 
 ghost use Rattle.std.specs.Prelude.{◌≡◌, ◌++◌, IfOk, OnOk, option_copied};
-ghost use Rattle.spaces.specs.RequestTargets.{authority, port_text, query_text, request_target, target_start};
+ghost use Rattle.spaces.specs.RequestTargets.{authority, port_text, query_text, request_target};
+ghost use Rattle.spaces.specs.RequestTargets.{target_start};
 
 use crate::place::{Origin, Place};
 use auth_text::{Bytes, NoMemory};

@@ -1,6 +1,7 @@
 //! The roster: all requests of a session, and the origins that get the default identity unasked.
 
-ghost use Rattle.std.specs.Prelude.{◌≡◌, ◌++◌, ◌∷◌, [], Some, length, slice_get, IfOk, IfErr, IsTrue, MatchOption, OnErr, OnOk, option_copied};
+ghost use Rattle.std.specs.Prelude.{◌≡◌, ◌++◌, ◌∷◌, [], Some, length, slice_get, IfOk, IfErr};
+ghost use Rattle.std.specs.Prelude.{IsTrue, MatchOption, OnErr, OnOk, option_copied};
 ghost use Rattle.spaces.specs.RequestTargets.{method_name};
 ghost use Rattle.spaces.specs.Sites.{is_routed, numbered, site_of};
 
@@ -97,7 +98,8 @@ impl Requests {
 
     /// Takes the last request out.
     pub fn pop(&mut self) -> Option<Request>
-        ensures { MatchOption result ((self.old ≡ []) × (self.new ≡ [])) (λ last. self.old ≡ self.new ++ last ∷ []) }
+        ensures { MatchOption result ((self.old ≡ [])
+            × (self.new ≡ [])) (λ last. self.old ≡ self.new ++ last ∷ []) }
     {
         self.items.pop()
     }
@@ -148,7 +150,8 @@ impl Origins {
 
     /// Takes the last origin out.
     pub fn pop(&mut self) -> Option<Origin>
-        ensures { MatchOption result ((self.old ≡ []) × (self.new ≡ [])) (λ last. self.old ≡ self.new ++ last ∷ []) }
+        ensures { MatchOption result ((self.old ≡ [])
+            × (self.new ≡ [])) (λ last. self.old ≡ self.new ++ last ∷ []) }
     {
         self.items.pop()
     }
@@ -181,7 +184,8 @@ fn site_at(
     target: Target,
     origin: &Origin,
 ) -> Result<Site, NoMemory>
-    ensures { IfOk result (λ site. site ≡ record { partition = partition.now; target = target; origin = origin.now }) }
+    ensures { IfOk result (λ site. site
+        ≡ record { partition = partition.now; target = target; origin = origin.now }) }
 {
     Ok(Site {
         partition: partition.clone()?,

@@ -1,6 +1,7 @@
 //! How a request ends. Each law is the contract of an empty function.
 
-ghost use Rattle.trace_laws.specs.Endings.{CutsAreAllowed, LossesAreAllowed, PromptsAreSettled, TracesAreWhole};
+ghost use Rattle.trace_laws.specs.Endings.{CutsAreAllowed, LossesAreAllowed, PromptsAreSettled};
+ghost use Rattle.trace_laws.specs.Endings.{TracesAreWhole};
 
 /// A trace ends with its outcome, and has no other.
 pub fn traces_are_whole()

@@ -1,7 +1,8 @@
 //! How many events a request has, and how often it chooses. Each law is the contract of an empty
 //! function.
 
-ghost use Rattle.trace_laws.specs.Lengths.{ChoicesAreFew, EventsAreFew, PastsLeaveRoom, TermsAreFew};
+ghost use Rattle.trace_laws.specs.Lengths.{ChoicesAreFew, EventsAreFew, PastsLeaveRoom};
+ghost use Rattle.trace_laws.specs.Lengths.{TermsAreFew};
 
 /// At every moment a request has had so few events that eight more have a place among 256.
 pub fn pasts_leave_room()

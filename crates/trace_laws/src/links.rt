@@ -1,6 +1,7 @@
 //! The link of a request that was dialed last. Each law is the contract of an empty function.
 
-ghost use Rattle.trace_laws.specs.LastLinks.{BoundLinksAreLast, HeadsGoOverTheLast, LaterLinksAreUnread, RepliesComeOnTheLast};
+ghost use Rattle.trace_laws.specs.LastLinks.{BoundLinksAreLast, HeadsGoOverTheLast};
+ghost use Rattle.trace_laws.specs.LastLinks.{LaterLinksAreUnread, RepliesComeOnTheLast};
 
 /// While tokens of a context bind a link (RFC 4559), no other is dialed; so the bound link is the
 /// one that was dialed last.

@@ -1,6 +1,7 @@
 //! What a request may read and name. Each law is the contract of an empty function.
 
-ghost use Rattle.trace_laws.specs.Naming.{DrawnNoncesAreKnown, HeldIsReadable, NextTermsAreAtHome, OfferedTermsAreAtHome, RenewedTermsAreAtHome};
+ghost use Rattle.trace_laws.specs.Naming.{DrawnNoncesAreKnown, HeldIsReadable, NextTermsAreAtHome};
+ghost use Rattle.trace_laws.specs.Naming.{OfferedTermsAreAtHome, RenewedTermsAreAtHome};
 
 /// The space, the identity and the terms of what a request holds may be read of the book.
 pub fn held_is_readable()

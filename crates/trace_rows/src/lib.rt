@@ -1,4 +1,5 @@
-//! The rule of a request, tried on worked requests: the events of each are a trace, and no wrong ones are.
+//! The rule of a request, tried on worked requests: the events of each are a trace, and no wrong
+//! ones are.
 #![tactic(auto)]
 
 mod traces;

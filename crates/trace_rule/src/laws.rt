@@ -1,6 +1,10 @@
 //! What holds of every trace. Each law is the contract of an empty function.
 
-ghost use Rattle.trace_rule.specs.Laws.{NothingFollows, TracesLast, TracesLastInABook, TracesAreDetermined, WantedCallsAreAllowed, WantedAnswersAreAllowed, DrawnNoncesAreNamed, SpacesAreNumbered, RoundsAreFew, CallsAreFew, EntriesAreFew, HeadsAreFew, DrawsAreFew};
+ghost use Rattle.trace_rule.specs.Laws.{NothingFollows, TracesLast, TracesLastInABook};
+ghost use Rattle.trace_rule.specs.Laws.{TracesAreDetermined, WantedCallsAreAllowed};
+ghost use Rattle.trace_rule.specs.Laws.{WantedAnswersAreAllowed, DrawnNoncesAreNamed};
+ghost use Rattle.trace_rule.specs.Laws.{SpacesAreNumbered, RoundsAreFew, CallsAreFew};
+ghost use Rattle.trace_rule.specs.Laws.{EntriesAreFew, HeadsAreFew, DrawsAreFew};
 
 /// Nothing follows the outcome.
 pub fn nothing_follows_the_outcome()

@@ -1,14 +1,16 @@
 //! The history's table: what its seats know, its rule, and the names of its steps.
 //! Nothing of the history is stored but its length, in one word; the rest exists in proofs alone.
 ghost use Rattle.std.specs.Prelude.{ℕ, List};
-ghost use Rattle.turnstile.specs.History.{Recorded, founder, spent, founds, founded, without_home, with_home_only, brings, joined, looks, publishes};
+ghost use Rattle.turnstile.specs.History.{Recorded, founder, spent, founds, founded, without_home};
+ghost use Rattle.turnstile.specs.History.{with_home_only, brings, joined, looks, publishes};
 
 use crate::told::Told;
 use atomic_table::{Join, Play, Split, TableRule};
 use std::collections::LinkedList;
 use std::marker::{Brand, PhantomData};
 
-/// Which table of atomic words it is, as plain data, so that a view or a fixed part can hold it. No value of it is made.
+/// Which table of atomic words it is, as plain data, so that a view or a fixed part can hold it. No
+/// value of it is made.
 pub struct TableName {
     pub words: u64,
     pub slots: u64,

@@ -1,5 +1,6 @@
 //! Notes behind a turnstile: the smallest value that can lie there, and one turn on it.
-//! The tests run it, and it shows what `leave` asks of a turn: keep what was there, and add items of one's own.
+//! The tests run it, and it shows what `leave` asks of a turn: keep what was there, and add items
+//! of one's own.
 ghost use Rattle.std.specs.Prelude.{◌≡◌, ◌++◌, ◌∷◌, [], ◌<◌, ◌^◌, vec_len, MatchBool};
 ghost use Rattle.turnstile.specs.Passes.{IsOf};
 
@@ -42,7 +43,8 @@ impl Notes {
 
     // The notes with one more, where there is room for it.
     fn with(self, note: (u32, u32)) -> (Notes, bool)
-        ensures list { MatchBool result.1 (result.0.list.items ≡ self.list.items ++ note ∷ []) (result.0.list.items ≡ self.list.items) }
+        ensures list { MatchBool result.1 (result.0.list.items
+            ≡ self.list.items ++ note ∷ []) (result.0.list.items ≡ self.list.items) }
         ensures label { result.0.label ≡ self.label }
     {
         let Notes { label, mut list } = self;
@@ -61,7 +63,8 @@ pub(crate) fn add_note<R: Wait>(
     requires of { IsOf lock.now pass }
     requires own { note.0 ≡ pass.number }
     ensures of { IsOf lock.now result.0 × (result.0.number ≡ pass.number) }
-    ensures mine { MatchBool result.1 (result.0.mine ≡ pass.mine ++ note ∷ []) (result.0.mine ≡ pass.mine) }
+    ensures mine { MatchBool result.1 (result.0.mine
+        ≡ pass.mine ++ note ∷ []) (result.0.mine ≡ pass.mine) }
 {
     let (notes, inside) = lock.enter(rt, pass);
     let (notes, added) = notes.with(note);

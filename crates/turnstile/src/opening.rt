@@ -1,5 +1,7 @@
-//! How a turnstile is made: the history's table with a seat for each pass, then the turns' table round the value, then the passes.
-ghost use Rattle.std.specs.Prelude.{◌≡◌, ℕ, ◌+◌, ◌<◌, ◌≤◌, ◌^◌, ◌∷◌, [], length, vec_len, vec_capacity, Some, IfSome, IfOk, IfErr};
+//! How a turnstile is made: the history's table with a seat for each pass, then the turns' table
+//! round the value, then the passes.
+ghost use Rattle.std.specs.Prelude.{◌≡◌, ℕ, ◌+◌, ◌<◌, ◌≤◌, ◌^◌, ◌∷◌, [], length, vec_len};
+ghost use Rattle.std.specs.Prelude.{vec_capacity, Some, IfSome, IfOk, IfErr};
 ghost use Rattle.turnstile.specs.History.{past};
 ghost use Rattle.turnstile.specs.Names.{history_of};
 ghost use Rattle.turnstile.specs.Turns.{turn};
@@ -30,8 +32,10 @@ pub(crate) fn found<S: Told>(
     ),
 >
     ensures table { IfSome result (λ r. r.0.shared.table_id.words ≡ 1) }
-    ensures home { IfSome result (λ r. (r.1.table_id ≡ r.0.shared.table_id) × (r.1.me ≡ (past 0 1 passes [] [] [] [], []))) }
-    ensures pasts { IfSome result (λ r. (vec_len r.2 ≡ passes) × AreNewSeats r.0.shared.table_id r.2.items) }
+    ensures home { IfSome result (λ r. (r.1.table_id ≡ r.0.shared.table_id)
+        × (r.1.me ≡ (past 0 1 passes [] [] [] [], []))) }
+    ensures pasts { IfSome result (λ r. (vec_len r.2 ≡ passes)
+        × AreNewSeats r.0.shared.table_id r.2.items) }
 {
     let Ok((history, mut home)) = Table::of_words(alloc, &[0], &()) else {
         return None;
@@ -62,8 +66,14 @@ pub(crate) fn enclose<S: Told>(
     requires small { key.now.passes < 2 ^ 32 }
     requires key { (key.now.state.value ≡ state) × (key.now.home.value.table_id ≡ home.table_id) }
     requires home { (S.items state ≡ []) × (home.me ≡ (past 0 1 key.now.passes [] [] [] [], [])) }
-    ensures ok { IfOk result (λ r. (r.0.shared.table_id.words ≡ 2) × (r.0.shared.table_id.slots ≡ 1) × (r.0.shared.key ≡ key.now)) }
-    ensures seat { IfOk result (λ r. (r.1.table_id ≡ r.0.shared.table_id) × (r.1.me ≡ (turn key.now.passes [] 0 (Some (S.fixed state)) (history_of key.now.passes home.table_id), []))) }
+    ensures ok { IfOk result (λ r. (r.0.shared.table_id.words ≡ 2)
+        × (r.0.shared.table_id.slots ≡ 1) × (r.0.shared.key ≡ key.now)) }
+    ensures seat { IfOk result (λ r. (r.1.table_id ≡ r.0.shared.table_id)
+        × (r.1.me ≡ (
+          turn key.now.passes [] 0
+              (Some (S.fixed state)) (history_of key.now.passes home.table_id),
+          [],
+        ))) }
     ensures err { IfErr result (λ e. e.state ≡ state) }
 {
     let Ok(mut slots) = Vec::with_capacity(alloc, 1) else {
@@ -92,19 +102,27 @@ pub(crate) fn enclose<S: Told>(
     }
 }
 
-// A pass for each of the history's seats, in their order. Each has a seat of the turns that stands for one pass.
+// A pass for each of the history's seats, in their order. Each has a seat of the turns that stands
+// for one pass.
 pub(crate) fn deal<S: Told>(
     turns: &Table<Option<Deposit<S>>, Turn<S::Fixed>, Key<S>, TurnRule<S>, Global>,
     mut seat: Seat<Option<Deposit<S>>, Turn<S::Fixed>>,
     pasts: Vec<Seat<(), Past<S::Item>>>,
     mut passes: Vec<Pass<S>>,
 ) -> Vec<Pass<S>>
-    requires table { (seat.table_id ≡ turns.now.shared.table_id) × (turns.now.shared.table_id.words ≡ 2) }
-    requires seat { seat.me ≡ (turn (vec_len pasts) [] 0 (Some (S.fixed turns.now.shared.key.state.value)) (history_of turns.now.shared.key.passes turns.now.shared.key.home.value.table_id), []) }
+    requires table { (seat.table_id ≡ turns.now.shared.table_id)
+        × (turns.now.shared.table_id.words ≡ 2) }
+    requires seat { seat.me
+        ≡ (
+          turn (vec_len pasts) [] 0 (Some (S.fixed turns.now.shared.key.state.value))
+              (history_of turns.now.shared.key.passes turns.now.shared.key.home.value.table_id),
+          [],
+        ) }
     requires room { (vec_len passes ≡ 0) × (vec_len pasts ≤ vec_capacity passes) }
     requires pasts { AreNewSeats turns.now.shared.key.home.value.table_id pasts.items }
     ensures len { vec_len result ≡ vec_len pasts }
-    ensures each { AreDealt turns.now.shared.key.home.value.table_id turns.now.shared.table_id (Some (S.fixed turns.now.shared.key.state.value)) result.items }
+    ensures each { AreDealt turns.now.shared.key.home.value.table_id turns.now.shared.table_id
+        (Some (S.fixed turns.now.shared.key.state.value)) result.items }
 {
     for past in pasts {
         let turn = turns.shared.split_seat::<Cuts>(&mut seat);

@@ -1,5 +1,6 @@
-//! A list of notes behind a turnstile: turns of one thread, and of two threads that run side by side.
-//! What a run shows beside the proofs: that a turn comes, that memory suffices, and that both threads get on.
+//! A list of notes behind a turnstile: turns of one thread, and of two threads that run side by
+//! side. What a run shows beside the proofs: that a turn comes, that memory suffices, and that both
+//! threads get on.
 ghost use Rattle.std.specs.Prelude.{◌≡◌, ◌+◌, ◌++◌, ◌∷◌, [], ◌<◌, ◌≤◌, ◌^◌, length, vec_len};
 ghost use Rattle.turnstile.specs.Passes.{IsOf, IsNewPass, AreNewPasses};
 
@@ -18,7 +19,8 @@ fn last_pass(lock: &Turnstile<Notes>, passes: &mut Passes<Notes>) -> Pass<Notes>
     ensures pass { IsNewPass lock.now (length passes.old.list) result }
     ensures rest { AreNewPasses lock.now passes.new.list }
     ensures len { length passes.new.list + 1 ≡ length passes.old.list }
-    ensures room { (passes.new.room ≡ passes.old.room) × (length passes.old.list ≤ passes.new.room) }
+    ensures room { (passes.new.room ≡ passes.old.room)
+        × (length passes.old.list ≤ passes.new.room) }
 {
     let Some(last) = passes.pop() else {
         unreachable!()

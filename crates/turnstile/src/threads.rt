@@ -1,4 +1,5 @@
-//! That threads may share a turnstile and carry passes, wherever the value itself may cross threads.
+//! That threads may share a turnstile and carry passes, wherever the value itself may cross
+//! threads.
 use crate::pass::Pass;
 use crate::passes::Passes;
 use crate::told::Told;

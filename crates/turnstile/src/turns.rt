@@ -1,5 +1,6 @@
 //! The turns' table: what its seats know, its rule, and the names of its steps.
-//! A ticket is drawn at one word, the other says whose turn it is, and the value lies in the one slot between turns.
+//! A ticket is drawn at one word, the other says whose turn it is, and the value lies in the one
+//! slot between turns.
 ghost use Rattle.std.specs.Prelude.{◌≡◌, []};
 
 use crate::history::{HistoryName, Past};
@@ -57,9 +58,12 @@ impl<S: Told> TableRule<Option<Deposit<S>>, Turn<S::Fixed>, Key<S>> for TurnRule
     ghost use Rattle.turnstile.specs.Names.{history_of, id_of};
     ghost use Rattle.std.specs.Prelude.{Some};
 
-    ghost holds = { λ key. Ordered (λ z f a. (a.home.table_id ≡ id_of z.table) × (a.home.me.0.made ≡ z.passes) × (f ≡ Some (S.fixed a.state))) key.passes (history_of key.passes key.home.value.table_id) (Some (S.fixed key.state.value)) };
+    ghost holds = { λ key. Ordered (λ z f a. (a.home.table_id ≡ id_of z.table)
+        × (a.home.me.0.made ≡ z.passes) × (f ≡ Some (S.fixed a.state))) key.passes
+        (history_of key.passes key.home.value.table_id) (Some (S.fixed key.state.value)) };
 
-    ghost first = { λ key. turn key.passes [] 0 (Some (S.fixed key.state.value)) (history_of key.passes key.home.value.table_id) };
+    ghost first = { λ key. turn key.passes [] 0
+        (Some (S.fixed key.state.value)) (history_of key.passes key.home.value.table_id) };
 }
 
 /// A ticket is drawn where it is the one that was looked for.
@@ -79,7 +83,8 @@ impl<S: Told> Play<Option<Deposit<S>>, Turn<S::Fixed>> for Takes<S> {
     ghost use Rattle.turnstile.specs.Names.{id_of};
     ghost use Rattle.std.specs.Prelude.{Some};
 
-    ghost then = { takes (λ z f a. (a.home.table_id ≡ id_of z.table) × (a.home.me.0.made ≡ z.passes) × (f ≡ Some (S.fixed a.state))) };
+    ghost then = { takes (λ z f a. (a.home.table_id ≡ id_of z.table)
+        × (a.home.me.0.made ≡ z.passes) × (f ≡ Some (S.fixed a.state))) };
 }
 
 /// The turn goes to the next ticket.

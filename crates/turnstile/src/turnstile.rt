@@ -1,8 +1,9 @@
-//! The turnstile: `enter` waits for a turn and takes the value out, `leave` puts it back and ends the turn, `close` gives it up.
-//! A turn is one ticket. The value is put back before the next ticket is served, so no two turns have it at once.
-//! A ticket is drawn only where no other is out, so it is served at once. Who finds another one out
-//! sleeps until a turn ends.
-ghost use Rattle.std.specs.Prelude.{◌≡◌, ℕ, ◌+◌, ◌%◌, ◌<◌, ◌++◌, ◌∷◌, [], All, length, Some, None, vec_len, IfOk, IfErr};
+//! The turnstile: `enter` waits for a turn and takes the value out, `leave` puts it back and ends
+//! the turn, `close` gives it up. A turn is one ticket. The value is put back before the next
+//! ticket is served, so no two turns have it at once. A ticket is drawn only where no other is out,
+//! so it is served at once. Who finds another one out sleeps until a turn ends.
+ghost use Rattle.std.specs.Prelude.{◌≡◌, ℕ, ◌+◌, ◌%◌, ◌<◌, ◌++◌, ◌∷◌, [], All, length, Some, None};
+ghost use Rattle.std.specs.Prelude.{vec_len, IfOk, IfErr};
 ghost use mathlib.Core.List.{IsPrefix};
 ghost use Rattle.turnstile.specs.Totals.{Each};
 ghost use Rattle.turnstile.specs.Passes.{IsIn, IsMade, added};
@@ -37,16 +38,25 @@ impl<S: Told> Model for Turnstile<S> {
 
     ghost Value = { TurnstileView S.Fixed };
 
-    ghost view = { λ t. record { passes = t.turns.shared.key.passes; fixed = S.fixed t.turns.shared.key.state.value; history = t.history.shared.table_id; turns = t.turns.shared.table_id } };
+    ghost view = { λ t. record {
+      passes = t.turns.shared.key.passes;
+      fixed = S.fixed t.turns.shared.key.state.value;
+      history = t.history.shared.table_id;
+      turns = t.turns.shared.table_id;
+    } };
 
-    ghost invariant = { λ t. (t.history.shared.table_id.words ≡ 1) × (t.turns.shared.table_id.words ≡ 2) × (t.turns.shared.table_id.slots ≡ 1) × (t.turns.shared.key.home.value.table_id ≡ t.history.shared.table_id) × (0 < t.turns.shared.key.passes) };
+    ghost invariant = { λ t. (t.history.shared.table_id.words ≡ 1)
+        × (t.turns.shared.table_id.words ≡ 2) × (t.turns.shared.table_id.slots ≡ 1)
+        × (t.turns.shared.key.home.value.table_id ≡ t.history.shared.table_id)
+        × (0 < t.turns.shared.key.passes) };
 }
 
 impl<S: Told> Turnstile<S> {
     ghost use Rattle.turnstile.specs.Passes.{IsOf, AreNewPasses};
     ghost use Rattle.turnstile.specs.Knows.{Knows};
 
-    /// A turnstile round a value that tells nothing yet, with its passes, which are numbered from 1 as they stand in the list.
+    /// A turnstile round a value that tells nothing yet, with its passes, which are numbered from 1
+    /// as they stand in the list.
     pub fn new(
         alloc: Global,
         state: S,
@@ -83,15 +93,16 @@ impl<S: Told> Turnstile<S> {
         Ok((turnstile, Passes { list }))
     }
 
-    /// Waits for a turn, and takes the value out. Its list begins with all that the pass had seen, and the pass's own items are
-    /// those of its number. The turn has then seen the whole list.
+    /// Waits for a turn, and takes the value out. Its list begins with all that the pass had seen,
+    /// and the pass's own items are those of its number. The turn has then seen the whole list.
     pub fn enter<R: Wait>(&self, rt: &R, pass: Pass<S>) -> (S, Inside<S>)
         requires { IsOf self.now pass }
         ensures known { IsIn S.by (S.items result.0) pass }
         ensures fixed { pass.fixed ≡ Some (S.fixed result.0) }
         ensures seen { result.1.seen ≡ S.items result.0 }
         ensures mine { result.1.mine ≡ pass.mine }
-        ensures pass { IsOf self.now result.1 × (result.1.number ≡ pass.number) × (result.1.fixed ≡ pass.fixed) }
+        ensures pass { IsOf self.now result.1
+            × (result.1.number ≡ pass.number) × (result.1.fixed ≡ pass.fixed) }
         ensures number { 0 < pass.number }
     {
         let Pass { mut past, turn } = pass;
@@ -103,8 +114,8 @@ impl<S: Told> Turnstile<S> {
         (state, Inside { past, turn, taken })
     }
 
-    /// Puts the value back, and ends the turn. The value tells what it told when it was taken out, and then items of this pass.
-    /// The pass has then seen all of them.
+    /// Puts the value back, and ends the turn. The value tells what it told when it was taken out,
+    /// and then items of this pass. The pass has then seen all of them.
     pub fn leave(&self, inside: Inside<S>, state: S) -> Pass<S>
         requires turn { IsOf self.now inside }
         requires kept { IsPrefix inside.seen (S.items state) }
@@ -112,13 +123,15 @@ impl<S: Told> Turnstile<S> {
         requires fixed { inside.fixed ≡ Some (S.fixed state) }
         ensures seen { result.seen ≡ S.items state }
         ensures mine { result.mine ≡ inside.mine ++ added inside.seen (S.items state) }
-        ensures pass { IsOf self.now result × (result.number ≡ inside.number) × (result.fixed ≡ inside.fixed) }
+        ensures pass { IsOf self.now result
+            × (result.number ≡ inside.number) × (result.fixed ≡ inside.fixed) }
     {
         self.leave_by::<Brand>(inside, state)
     }
 
-    /// Gives the value up, once all passes are back. It tells all that any pass has seen, and each pass's own items are those of
-    /// its number. No item has the number of a pass that was never made.
+    /// Gives the value up, once all passes are back. It tells all that any pass has seen, and each
+    /// pass's own items are those of its number. No item has the number of a pass that was never
+    /// made.
     pub fn close(self, mut passes: Passes<S>) -> S
         requires all { length passes.list ≡ self.passes }
         requires passes { All (IsOf self) passes.list }
@@ -148,9 +161,15 @@ impl<S: Told> Turnstile<S> {
         turn: Seat<Option<Deposit<S>>, Turn<S::Fixed>>,
     ) -> (Seat<Option<Deposit<S>>, Turn<S::Fixed>>, Deposit<S>)
         requires table { turn.table_id ≡ self.now.turns }
-        requires rests { (turn.me.1 ≡ []) × (turn.me.0.tickets ≡ []) × (turn.me.0.holds ≡ 0) × (0 < turn.me.0.parts) }
-        ensures seat { (result.0.table_id ≡ turn.table_id) × (result.0.me.1 ≡ (0, None) ∷ []) × (result.0.me.0.holds ≡ 1) × (result.0.me.0.parts ≡ turn.me.0.parts) × (result.0.me.0.history ≡ turn.me.0.history) × (result.0.me.0.fixed ≡ turn.me.0.fixed) }
-        ensures deposit { (result.1.home.table_id ≡ id_of turn.me.0.history.table) × (result.1.home.me.0.made ≡ turn.me.0.history.passes) × (turn.me.0.fixed ≡ Some (S.fixed result.1.state)) }
+        requires rests { (turn.me.1 ≡ [])
+            × (turn.me.0.tickets ≡ []) × (turn.me.0.holds ≡ 0) × (0 < turn.me.0.parts) }
+        ensures seat { (result.0.table_id ≡ turn.table_id) × (result.0.me.1 ≡ (0, None) ∷ [])
+            × (result.0.me.0.holds ≡ 1) × (result.0.me.0.parts ≡ turn.me.0.parts)
+            × (result.0.me.0.history ≡ turn.me.0.history)
+            × (result.0.me.0.fixed ≡ turn.me.0.fixed) }
+        ensures deposit { (result.1.home.table_id ≡ id_of turn.me.0.history.table)
+            × (result.1.home.me.0.made ≡ turn.me.0.history.passes)
+            × (turn.me.0.fixed ≡ Some (S.fixed result.1.state)) }
     {
         let (mut turn, ticket) = self.draw_ticket(rt, turn);
         for _ in rt.forever() {
@@ -169,9 +188,11 @@ impl<S: Told> Turnstile<S> {
         mut turn: Seat<Option<Deposit<S>>, Turn<S::Fixed>>,
     ) -> (Seat<Option<Deposit<S>>, Turn<S::Fixed>>, u64)
         requires table { turn.table_id ≡ self.now.turns }
-        requires rests { (turn.me.1 ≡ []) × (turn.me.0.tickets ≡ []) × (turn.me.0.holds ≡ 0) × (0 < turn.me.0.parts) }
+        requires rests { (turn.me.1 ≡ [])
+            × (turn.me.0.tickets ≡ []) × (turn.me.0.holds ≡ 0) × (0 < turn.me.0.parts) }
         ensures table { result.0.table_id ≡ turn.table_id }
-        ensures ticket { (t : ℕ) × (result.0.me ≡ (waiting turn.me.0 t, [])) × (result.1 ≡ t % 18446744073709551616) }
+        ensures ticket { (t : ℕ)
+            × (result.0.me ≡ (waiting turn.me.0 t, [])) × (result.1 ≡ t % 18446744073709551616) }
     {
         for _ in rt.forever() {
             let served = self.turns.shared.peek(1);
@@ -191,8 +212,8 @@ impl<S: Told> Turnstile<S> {
         unreachable!()
     }
 
-    // Sleeps while this ticket is served. A thread that has slept wakes another one at the end of its
-    // turn, since more may sleep.
+    // Sleeps while this ticket is served. A thread that has slept wakes another one at the end of
+    // its turn, since more may sleep.
     fn sleep<R: Wait>(&self, rt: &R, served: u64) {
         self.sleepers.store(1, SeqCst);
         self.turns
@@ -207,9 +228,15 @@ impl<S: Told> Turnstile<S> {
         mut turn: Seat<Option<Deposit<S>>, Turn<S::Fixed>>,
     ) -> (Seat<Option<Deposit<S>>, Turn<S::Fixed>>, Deposit<S>)
         requires table { turn.table_id ≡ self.now.turns }
-        requires took { (a : _) × (turn.me.1 ≡ (0, Some a) ∷ []) × (a.home.table_id ≡ id_of turn.me.0.history.table) × (a.home.me.0.made ≡ turn.me.0.history.passes) × (turn.me.0.fixed ≡ Some (S.fixed a.state)) }
-        ensures seat { (result.0.table_id ≡ turn.table_id) × (result.0.me ≡ (turn.me.0, (0, None) ∷ [])) }
-        ensures deposit { (result.1.home.table_id ≡ id_of turn.me.0.history.table) × (result.1.home.me.0.made ≡ turn.me.0.history.passes) × (turn.me.0.fixed ≡ Some (S.fixed result.1.state)) }
+        requires took { (a : _)
+            × (turn.me.1 ≡ (0, Some a) ∷ []) × (a.home.table_id ≡ id_of turn.me.0.history.table)
+            × (a.home.me.0.made ≡ turn.me.0.history.passes)
+            × (turn.me.0.fixed ≡ Some (S.fixed a.state)) }
+        ensures seat { (result.0.table_id ≡ turn.table_id)
+            × (result.0.me ≡ (turn.me.0, (0, None) ∷ [])) }
+        ensures deposit { (result.1.home.table_id ≡ id_of turn.me.0.history.table)
+            × (result.1.home.me.0.made ≡ turn.me.0.history.passes)
+            × (turn.me.0.fixed ≡ Some (S.fixed result.1.state)) }
     {
         let deposit = self.turns.shared.exchange(&mut turn, 0, None).unwrap();
         (turn, deposit)
@@ -218,11 +245,13 @@ impl<S: Told> Turnstile<S> {
     // `leave`, with the new items by name.
     fn leave_by<J: News<S::Item>>(&self, inside: Inside<S>, state: S) -> Pass<S>
         requires turn { IsOf self.now inside }
-        requires told { (S.items state ≡ inside.seen ++ J.news) × Each (λ y. S.by y ≡ inside.number) J.news }
+        requires told { (S.items state ≡ inside.seen ++ J.news)
+            × Each (λ y. S.by y ≡ inside.number) J.news }
         requires fixed { inside.fixed ≡ Some (S.fixed state) }
         ensures seen { result.seen ≡ S.items state }
         ensures mine { result.mine ≡ inside.mine ++ J.news }
-        ensures pass { (result.history ≡ inside.history) × (result.turns ≡ inside.turns) × (result.number ≡ inside.number) × (result.fixed ≡ inside.fixed) }
+        ensures pass { (result.history ≡ inside.history) × (result.turns ≡ inside.turns)
+            × (result.number ≡ inside.number) × (result.fixed ≡ inside.fixed) }
     {
         let Inside {
             mut past,
@@ -254,18 +283,24 @@ impl<S: Told> Turnstile<S> {
     ) -> Seat<Option<Deposit<S>>, Turn<S::Fixed>>
         requires table { turn.table_id ≡ self.now.turns }
         requires empty { turn.me.1 ≡ (0, None) ∷ [] }
-        requires deposit { (deposit.home.table_id ≡ id_of turn.me.0.history.table) × (deposit.home.me.0.made ≡ turn.me.0.history.passes) × (turn.me.0.fixed ≡ Some (S.fixed deposit.state)) }
+        requires deposit { (deposit.home.table_id ≡ id_of turn.me.0.history.table)
+            × (deposit.home.me.0.made ≡ turn.me.0.history.passes)
+            × (turn.me.0.fixed ≡ Some (S.fixed deposit.state)) }
         ensures table { result.table_id ≡ turn.table_id }
         ensures view { result.me.0 ≡ turn.me.0 }
-        ensures full { (a : _) × (result.me.1 ≡ (0, Some a) ∷ []) × (a.home.table_id ≡ id_of result.me.0.history.table) × (a.home.me.0.made ≡ result.me.0.history.passes) × (result.me.0.fixed ≡ Some (S.fixed a.state)) }
+        ensures full { (a : _) × (result.me.1 ≡ (0, Some a) ∷ [])
+            × (a.home.table_id ≡ id_of result.me.0.history.table)
+            × (a.home.me.0.made ≡ result.me.0.history.passes)
+            × (result.me.0.fixed ≡ Some (S.fixed a.state)) }
     {
         let old = self.turns.shared.exchange(&mut turn, 0, Some(deposit));
         let None = old else { unreachable!() };
         turn
     }
 
-    // Whether a thread may sleep. From here on none does, unless it says so anew. That is noted before the
-    // turn ends: who says so later sleeps during the next turn, and its thread has to find that.
+    // Whether a thread may sleep. From here on none does, unless it says so anew. That is noted
+    // before the turn ends: who says so later sleeps during the next turn, and its thread has to
+    // find that.
     fn note_awake(&self) -> bool {
         let slept = self.sleepers.load(SeqCst) != 0;
         if slept {
@@ -288,7 +323,10 @@ impl<S: Told> Turnstile<S> {
     ) -> Seat<Option<Deposit<S>>, Turn<S::Fixed>>
         requires table { turn.table_id ≡ self.now.turns }
         requires holds { (0 < turn.me.0.parts) × (0 < turn.me.0.holds) }
-        requires full { (a : _) × (turn.me.1 ≡ (0, Some a) ∷ []) × (a.home.table_id ≡ id_of turn.me.0.history.table) × (a.home.me.0.made ≡ turn.me.0.history.passes) × (turn.me.0.fixed ≡ Some (S.fixed a.state)) }
+        requires full { (a : _)
+            × (turn.me.1 ≡ (0, Some a) ∷ []) × (a.home.table_id ≡ id_of turn.me.0.history.table)
+            × (a.home.me.0.made ≡ turn.me.0.history.passes)
+            × (turn.me.0.fixed ≡ Some (S.fixed a.state)) }
         ensures table { result.table_id ≡ turn.table_id }
         ensures view { result.me ≡ (resting turn.me.0, []) }
     {
@@ -307,8 +345,11 @@ impl<S: Told> Turnstile<S> {
     )
         requires { IsOf self.now first × Each (IsOf self.now) passes.items }
         ensures knows { Knows result.0.me.0 first × Each (Knows result.0.me.0) passes.items }
-        ensures past { (result.0.table_id ≡ self.now.history) × (result.0.me.1 ≡ []) × (result.0.me.0.home ≡ 0) × (0 < result.0.me.0.number) }
-        ensures turn { (result.1.table_id ≡ self.now.turns) × (result.1.me.1 ≡ []) × (result.1.me.0.tickets ≡ []) × (result.1.me.0.holds ≡ 0) × (result.1.me.0.parts ≡ vec_len passes + 1) }
+        ensures past { (result.0.table_id ≡ self.now.history)
+            × (result.0.me.1 ≡ []) × (result.0.me.0.home ≡ 0) × (0 < result.0.me.0.number) }
+        ensures turn { (result.1.table_id ≡ self.now.turns)
+            × (result.1.me.1 ≡ []) × (result.1.me.0.tickets ≡ [])
+            × (result.1.me.0.holds ≡ 0) × (result.1.me.0.parts ≡ vec_len passes + 1) }
     {
         let Pass { mut past, mut turn } = first;
         while let Some(pass) = passes.pop() {
@@ -330,7 +371,8 @@ fn reopened<S: Told>(
 ) -> Deposit<S>
     requires table { (turn.table_id ≡ turns.shared.table_id) × (turns.shared.table_id.slots ≡ 1) }
     requires all { (turn.me.0.parts ≡ turns.shared.key.passes) × (turn.me.0.holds ≡ 0) }
-    ensures home { (result.home.table_id ≡ turns.shared.key.home.value.table_id) × (result.home.me.0.made ≡ turns.shared.key.passes) }
+    ensures home { (result.home.table_id ≡ turns.shared.key.home.value.table_id)
+        × (result.home.me.0.made ≡ turns.shared.key.passes) }
     ensures fixed { S.fixed result.state ≡ S.fixed turns.shared.key.state.value }
 {
     let mut closed = turns.close_with(turn);

@@ -7,8 +7,8 @@ use auth_text::{Bytes, Items, NoMemory};
 use challenge_tokens::read_field;
 use std::alloc::Global;
 
-/// The schemes that a value of `WWW-Authenticate` or `Proxy-Authenticate` offers, in order and in lower
-/// case. A bad piece hides no challenge that stands before it.
+/// The schemes that a value of `WWW-Authenticate` or `Proxy-Authenticate` offers, in order and in
+/// lower case. A bad piece hides no challenge that stands before it.
 pub fn schemes(alloc: Global, value: &[u8]) -> Result<Items<Bytes>, NoMemory>
     ensures { IfOk result (λ found. found
         ≡ map (λ challenge. challenge.scheme) (field_read value.now).challenges) }

@@ -34,8 +34,9 @@ pub fn credentials_for(
     identity: &Identity,
     asking: &Asking<'_>,
 ) -> Result<Option<Bytes>, NoMemory>
-    ensures { IfOk result (λ text. text ≡ credentials_of identity.now asking.now.method asking.now.uri.now
-        asking.now.count asking.now.cnonce.now offer.now) }
+    ensures { IfOk result (λ text. text
+        ≡ credentials_of identity.now
+        asking.now.method asking.now.uri.now asking.now.count asking.now.cnonce.now offer.now) }
 {
     match offer {
         Offer::Basic { realm: _ } => Ok(Some(credentials(alloc, identity)?)),

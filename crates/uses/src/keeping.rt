@@ -1,4 +1,5 @@
-//! Looking for what a user gave before. A book is asked as the request begins, before a head is sent.
+//! Looking for what a user gave before. A book is asked as the request begins, before a head is
+//! sent.
 
 ghost use Rattle.std.specs.Prelude.{◌≡◌, IfOk, IfSome, IsTrue, Some, is_some};
 ghost use Rattle.auth_events.specs.Identities.{giving, identity};
@@ -17,7 +18,8 @@ fn ready_gift<B: Controller>(book: &mut B, roster: &Roster, request: u32) -> Opt
     ensures roster { B.roster book.new ≡ roster.now }
     ensures names { B.names book.new ≡ B.names book.old }
     ensures ready { IfSome result (λ gift. IsReady request gift (past (B.told book.new))) }
-    ensures given { IfSome result (λ gift. IsTrue (is_some (giving (past (B.told book.new)) gift))) }
+    ensures given { IfSome result
+        (λ gift. IsTrue (is_some (giving (past (B.told book.new)) gift))) }
 {
     let target = Target::Server;
     let did = try_call(book, roster, request, Call::Preempt { target })?;
@@ -27,9 +29,9 @@ fn ready_gift<B: Controller>(book: &mut B, roster: &Roster, request: u32) -> Opt
     }
 }
 
-/// Begins the request, and gives the identity that the book has ready for its server: what an earlier
-/// request of the same partition was given at or above the same directory. There is none where the
-/// request has begun before.
+/// Begins the request, and gives the identity that the book has ready for its server: what an
+/// earlier request of the same partition was given at or above the same directory. There is none
+/// where the request has begun before.
 pub fn recalled<B: Controller>(
     book: &mut B,
     roster: &Roster,

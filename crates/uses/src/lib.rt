@@ -1,5 +1,5 @@
-//! Callers of the public calls, each as an embedder would write it: read a challenge, answer it, and
-//! look for what a user gave before.
+//! Callers of the public calls, each as an embedder would write it: read a challenge, answer it,
+//! and look for what a user gave before.
 #![tactic(auto)]
 
 mod challenges;

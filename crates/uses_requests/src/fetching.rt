@@ -28,9 +28,9 @@ fn words_for(alloc: Global, roster: &Roster) -> Result<PlainWords, NoMemory>
     PlainWords::new(alloc, 16 * requests)
 }
 
-/// Serves the first request of a roster over a dialer and a prompter, with a book of its own. The trace
-/// obeys the rule of requests, whatever the peers send and the user answers, and no link stays open.
-/// An error is want of memory before the request began.
+/// Serves the first request of a roster over a dialer and a prompter, with a book of its own. The
+/// trace obeys the rule of requests, whatever the peers send and the user answers, and no link
+/// stays open. An error is want of memory before the request began.
 pub fn fetch<D: Dialer, P: Prompter>(
     alloc: Global,
     roster: &Roster,

@@ -1,5 +1,5 @@
-//! Callers that put whole requests into a program: a dialer of one's own, and a request that is served
-//! over it.
+//! Callers that put whole requests into a program: a dialer of one's own, and a request that is
+//! served over it.
 #![tactic(auto)]
 
 mod fetching;

@@ -1,5 +1,5 @@
-//! A dialer of one's own. Where an embedder has sockets, this one has a peer that says the same on every
-//! link. It tells nothing of what went over its links, as a dialer over a network does.
+//! A dialer of one's own. Where an embedder has sockets, this one has a peer that says the same on
+//! every link. It tells nothing of what went over its links, as a dialer over a network does.
 
 ghost use Rattle.std.specs.Prelude.{◌≡◌, ◌≤◌, length, min};
 ghost use Rattle.uses_requests.specs.Peers.{links_held};

@@ -1,5 +1,5 @@
-//! What a reply's head says of what follows it: how the body ends, whether the connection stays open
-//! (RFC 7230, sections 3.3.3 and 6.3), and the challenges or the infos (RFC 7615).
+//! What a reply's head says of what follows it: how the body ends, whether the connection stays
+//! open (RFC 7230, sections 3.3.3 and 6.3), and the challenges or the infos (RFC 7615).
 
 ghost use Rattle.std.specs.Prelude.{◌≡◌, ◌+◌, ◌<◌, ◌≤◌, length, ◌==◌, IfOk, codes, false};
 ghost use Rattle.std.specs.List.{prefix_len, list_all, list_any};

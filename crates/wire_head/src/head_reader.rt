@@ -1,7 +1,9 @@
-//! The heads of requests, read back: what `write_head` writes of fit parts, and nothing else. A head
-//! is read by its lines, and is taken only where writing what was read gives its very bytes.
+//! The heads of requests, read back: what `write_head` writes of fit parts, and nothing else. A
+//! head is read by its lines, and is taken only where writing what was read gives its very bytes.
 
-ghost use Rattle.std.specs.Prelude.{◌≡◌, Some, ◌≤◌, ◌==◌, ◌||◌, ◌&&◌, ◌<◌, length, bytes_eq, reverse, not, option_map, take, drop, IfOk, IfSome, MatchResult};
+ghost use Rattle.std.specs.Prelude.{◌≡◌, Some, ◌≤◌, ◌==◌, ◌||◌, ◌&&◌, ◌<◌, length, bytes_eq};
+ghost use Rattle.std.specs.Prelude.{reverse, not, option_map, take, drop, IfOk, IfSome};
+ghost use Rattle.std.specs.Prelude.{MatchResult};
 ghost use Rattle.std.specs.List.{list_all, prefix_len, position_from};
 ghost use Rattle.std.specs.Str.Parse.{digits_value};
 ghost use Rattle.wire_head.specs.Lines.{cut_at};

@@ -17,7 +17,8 @@ use std::alloc::Global;
 /// How far a text is as a reply.
 #[derive(Debug, Drop)]
 pub(crate) enum Progress {
-    /// Nothing is decided. With the reply that the text is, where the stream ends here and that is no cut.
+    /// Nothing is decided. With the reply that the text is, where the stream ends here and that is
+    /// no cut.
     Open(Option<Reply>),
     /// A whole reply, of so many bytes.
     Whole(Reply, usize),

@@ -69,8 +69,11 @@ impl ReplyReader {
 
     /// Reads one more piece. The answer is that of all the bytes fed, however they were cut.
     pub fn feed(&mut self, bytes: &[u8]) -> Fed
-        ensures answer { (method : Method) (fed : List ℕ) → IsFed self.old method fed → IsAnswer (reply method (fed ++ bytes.now) false) (length fed) (length bytes.now) result }
-        ensures fed { (method : Method) (fed : List ℕ) → IsFed self.old method fed → IsMore result → IsFed self.new method (fed ++ bytes.now) }
+        ensures answer { (method : Method) (fed : List ℕ) → IsFed self.old method fed
+            → IsAnswer
+            (reply method (fed ++ bytes.now) false) (length fed) (length bytes.now) result }
+        ensures fed { (method : Method) (fed : List ℕ) → IsFed self.old method fed
+            → IsMore result → IsFed self.new method (fed ++ bytes.now) }
     {
         let before = self.bytes.len();
         let Ok(()) = self.bytes.extend_from_slice(bytes) else {
@@ -113,7 +116,8 @@ impl ReplyReader {
 
     /// The reply where the stream has ended, or `Cut`.
     pub fn end(self) -> Result<Reply, WireFault>
-        ensures { (method : Method) (fed : List ℕ) → IsFed self method fed → IsAnswerAtEnd (reply method fed true) result }
+        ensures { (method : Method) (fed : List ℕ)
+            → IsFed self method fed → IsAnswerAtEnd (reply method fed true) result }
     {
         let ReplyReader {
             method: _,

@@ -16,7 +16,8 @@ pub enum WireFault {
     /// A head has ended that is no head of a response.
     #[error("the head is malformed")]
     BadHead,
-    /// The heads have more than 65,536 bytes, interim ones included, or one has more than 256 lines.
+    /// The heads have more than 65,536 bytes, interim ones included, or one has more than 256
+    /// lines.
     #[error("the head is too long")]
     HeadTooLong,
     /// The lengths of the body contradict each other, or its chunks are malformed.

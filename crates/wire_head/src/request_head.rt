@@ -46,7 +46,8 @@ fn push_host(out: &mut Bytes, origin: &Origin) -> Result<(), NoMemory>
 }
 
 fn push_field(out: &mut Bytes, name: &[u8], value: Option<&[u8]>) -> Result<(), NoMemory>
-    ensures { OnOk result (out.new ≡ out.old ++ spec.field_line name.now (option_map (λ v. v.now) value.entry)) }
+    ensures { OnOk result (out.new
+        ≡ out.old ++ spec.field_line name.now (option_map (λ v. v.now) value.entry)) }
 {
     let Some(value) = value else {
         return Ok(());
@@ -69,8 +70,9 @@ fn push_connection(out: &mut Bytes, keep: bool) -> Result<(), NoMemory>
 
 /// The head of a request of these parts, up to and with its empty line.
 pub fn write_head(alloc: Global, parts: &HeadParts) -> Result<Bytes, NoMemory>
-    ensures { IfOk result (λ text. text ≡ spec.head parts.now.method parts.now.target.now parts.now.origin.now
-        (option_map (λ v. v.now) parts.now.proxy) (option_map (λ v. v.now) parts.now.server) parts.now.keep) }
+    ensures { IfOk result (λ text. text
+        ≡ spec.head parts.now.method parts.now.target.now parts.now.origin.now (option_map
+        (λ v. v.now) parts.now.proxy) (option_map (λ v. v.now) parts.now.server) parts.now.keep) }
 {
     let mut out = Bytes::new(alloc);
     push_request_line(&mut out, parts.method, parts.target)?;

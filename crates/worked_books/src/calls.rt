@@ -8,8 +8,8 @@ use auth_events::{Call, Controller, Did};
 use plain_book::is_allowed;
 use spaces::Roster;
 
-/// What a call of the caller that has the request's number does to the book, where the call is allowed.
-/// A call that isn't changes nothing.
+/// What a call of the caller that has the request's number does to the book, where the call is
+/// allowed. A call that isn't changes nothing.
 pub fn try_call<B: Controller>(
     book: &mut B,
     roster: &Roster,
@@ -19,10 +19,16 @@ pub fn try_call<B: Controller>(
     requires { B.roster book.old ≡ roster.now }
     ensures roster { B.roster book.new ≡ roster.now }
     ensures names { B.names book.new ≡ B.names book.old }
-    ensures allowed { IsSome result ↔ IsTrue (allowed roster.now (B.names book.old) (past (B.told book.old)) request request call) }
-    ensures reply { IfSome result (λ did. did.reply ≡ answer roster.now (B.names book.old) (past (B.told book.old)) request call) }
-    ensures retired { IfSome result (λ did. did.retired ≡ retired_by (B.names book.old) (past (B.told book.old)) (record { caller = request; request = request; call = call; reply = did.reply })) }
-    ensures told { IfSome result (λ did. B.told book.new ≡ told_after (B.told book.old) (record { caller = request; request = request; call = call; reply = did.reply })) }
+    ensures allowed { IsSome result ↔ IsTrue
+        (allowed roster.now (B.names book.old) (past (B.told book.old)) request request call) }
+    ensures reply { IfSome result (λ did. did.reply
+        ≡ answer roster.now (B.names book.old) (past (B.told book.old)) request call) }
+    ensures retired { IfSome result (λ did. did.retired
+        ≡ retired_by (B.names book.old) (past (B.told book.old))
+        (record { caller = request; request = request; call = call; reply = did.reply })) }
+    ensures told { IfSome result (λ did. B.told book.new
+        ≡ told_after (B.told book.old)
+        (record { caller = request; request = request; call = call; reply = did.reply })) }
     ensures refused { IfNone result (B.told book.new ≡ B.told book.old) }
 {
     let names = book.names();

@@ -1,4 +1,5 @@
-//! Calls on any book of credentials, made only where their conditions hold, and worked histories of them.
+//! Calls on any book of credentials, made only where their conditions hold, and worked histories of
+//! them.
 #![tactic(auto)]
 
 mod calls;

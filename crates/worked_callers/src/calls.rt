@@ -27,7 +27,8 @@ impl<'a, B: Controller> Reading<B> for Asked<'a> {
     ghost needs = { λ self book. B.roster book ≡ self.roster.now };
 
     ghost is_found = { λ self book found. found
-        ≡ allowed self.roster.now (B.names book) (past (B.told book)) self.caller self.request self.call };
+        ≡ allowed self.roster.now
+        (B.names book) (past (B.told book)) self.caller self.request self.call };
 
     fn read(&self, book: &B) -> bool {
         let names = book.names();

@@ -13,7 +13,8 @@ pub fn next_caller<B: Controller>(shared: &SharedBook<B>, callers: &mut Callers<
     ensures caller { IsNewCaller shared.now (length callers.new.list) result }
     ensures rest { AreNewCallers shared.now callers.new.list }
     ensures len { length callers.new.list + 1 ≡ length callers.old.list }
-    ensures room { (callers.new.room ≡ callers.old.room) × (length callers.new.list < callers.new.room) }
+    ensures room { (callers.new.room ≡ callers.old.room)
+        × (length callers.new.list < callers.new.room) }
 {
     let Some(last) = callers.pop() else {
         unreachable!()

@@ -1,13 +1,13 @@
-//! Fields as servers send them, the rule's edges, and what each reads as. What a row expects was read
-//! from its field by hand, by RFC 7235 section 2.1.
+//! Fields as servers send them, the rule's edges, and what each reads as. What a row expects was
+//! read from its field by hand, by RFC 7235 section 2.1.
 
 use auth_text::{Bytes, NoMemory};
 use challenge_tokens::{Body, Challenge, FieldRead, Params, read_field, read_info};
 use std::alloc::Global;
 use std::test::Fail;
 
-/// A field, its challenges as `scheme`, `scheme:TOKEN68` or `scheme(NAME=VALUE|..)` with `; ` between
-/// them, and the place of its first bad piece.
+/// A field, its challenges as `scheme`, `scheme:TOKEN68` or `scheme(NAME=VALUE|..)` with `; `
+/// between them, and the place of its first bad piece.
 const FIELDS: [(&[u8], &[u8], Option<usize>); 31] = [
     // As Apache, nginx, lighttpd, squid and IIS write them.
     (

@@ -1,5 +1,5 @@
-//! Challenges of the standards and of servers, with the terms that they ask for or the cause for which
-//! they are passed over, read by hand by RFC 7616.
+//! Challenges of the standards and of servers, with the terms that they ask for or the cause for
+//! which they are passed over, read by hand by RFC 7616.
 
 use auth_text::{Bytes, NoMemory};
 use challenge_tokens::{Challenge, read_field};
@@ -8,11 +8,11 @@ use spaces::{Algorithm, Qop};
 use std::alloc::Global;
 use std::test::Fail;
 
-// Each with its algorithm, whether that was said, qop, whether stale, `userhash` where the user name is
-// to be hashed, and realm, nonce and opaque. The
-// first two are those of RFC 2617, section 3.5, and RFC 7616, section 3.9.1; then as Apache, squid,
-// WEBrick, Flask and the Digest module for nginx send them; then names in another case, a qop that
-// names nothing, and no realm; then user names that are hashed and not.
+// Each with its algorithm, whether that was said, qop, whether stale, `userhash` where the user
+// name is to be hashed, and realm, nonce and opaque. The first two are those of RFC 2617, section
+// 3.5, and RFC 7616, section 3.9.1; then as Apache, squid, WEBrick, Flask and the Digest module for
+// nginx send them; then names in another case, a qop that names nothing, and no realm; then user
+// names that are hashed and not.
 const READ: [(&[u8], &[u8]); 13] = [
     (
         b"Digest realm=\"testrealm@host.com\", qop=\"auth,auth-int\", nonce=\"dcd98b7102dd2f0e8b11d0f600bfb0c093\", opaque=\"5ccc069c403ebaf9f0171e9517f40e41\"",

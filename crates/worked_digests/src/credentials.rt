@@ -1,5 +1,5 @@
-//! Credentials, hashes and client nonces. What no standard lists was computed by another implementation
-//! of the hashes.
+//! Credentials, hashes and client nonces. What no standard lists was computed by another
+//! implementation of the hashes.
 
 use auth_text::{Bytes, Identity, NoMemory};
 use digest_handler::{AuthHash, Md5Hash, Sha256Hash, cnonce, respond};
@@ -38,9 +38,9 @@ const NEW: [&[u8]; 3] = [
     b"FQhe/qaU925kfnzjCev0ciny7QMkPqMAFRtzCUYo5tdS",
 ];
 
-// RFC 2617's example, and the same without qop; RFC 7616's with SHA-256, with the user name as it is and
-// hashed; a user name that is hashed with MD5; and texts that are escaped where they are sent and hashed
-// as they are, with a count above nine.
+// RFC 2617's example, and the same without qop; RFC 7616's with SHA-256, with the user name as it
+// is and hashed; a user name that is hashed with MD5; and texts that are escaped where they are
+// sent and hashed as they are, with a count above nine.
 const ROWS: [Row; 6] = [
     Row {
         algorithm: Algorithm::Md5,

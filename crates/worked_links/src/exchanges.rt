@@ -1,5 +1,5 @@
-//! Exchanges over links of a recorded dialer, with what each shows: over a free link, which carries one,
-//! and over a bound one, which is read twice.
+//! Exchanges over links of a recorded dialer, with what each shows: over a free link, which carries
+//! one, and over a bound one, which is read twice.
 
 ghost use Rattle.std.specs.Prelude.{◌≡◌, [], Some, None, true, false, IfOk};
 ghost use Rattle.link_trait.specs.Links.{has_link, IsUndialed};

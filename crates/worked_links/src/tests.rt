@@ -86,7 +86,8 @@ fn heard_next<D: Dialer>(dialer: &mut D) -> (Got, [u8; 8])
     (got, buf)
 }
 
-/// Dials a link and writes to it, and reads four times; nothing where it isn't dialed or written to.
+/// Dials a link and writes to it, and reads four times; nothing where it isn't dialed or written
+/// to.
 fn heard<D: Dialer>(dialer: &mut D, to: &Origin) -> Option<[(Got, [u8; 8]); 4]>
     requires closed { has_link (record { request = 1; nth = 1 }) (D.opened dialer.old) ≡ false }
     requires fresh { IsUndialed (record { request = 1; nth = 1 }) (D.dials dialer.old) }

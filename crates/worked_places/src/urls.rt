@@ -5,7 +5,8 @@ use spaces::{Partition, PartitionFault, Place, PlaceFault, covers, dir_of, place
 use std::alloc::Global;
 use std::test::Fail;
 
-/// A text with its URL, its host and port (but 80), and the request target to the server and to a proxy.
+/// A text with its URL, its host and port (but 80), and the request target to the server and to a
+/// proxy.
 fn url_row(n: u32) -> (&'static str, &'static str) {
     match n {
         0 => ("http://h", "http://h/|h|/|http://h/"),

@@ -25,7 +25,8 @@ pub(crate) const BODY_TOO_LONG: Seen = Seen::Fault(WireFault::BodyTooLong);
 
 pub(crate) const CUT: Seen = Seen::Fault(WireFault::Cut);
 
-/// Feeds the text in pieces of a size, then its end: the reply and how many bytes it has, or a fault.
+/// Feeds the text in pieces of a size, then its end: the reply and how many bytes it has, or a
+/// fault.
 pub(crate) fn read(
     alloc: Global,
     method: Method,

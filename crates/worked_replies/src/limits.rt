@@ -1,5 +1,5 @@
-//! Replies at the limits of heads and bodies. They are too long to be judged anew at each byte, so they
-//! are fed whole and in pieces of 8,192 bytes.
+//! Replies at the limits of heads and bodies. They are too long to be judged anew at each byte, so
+//! they are fed whole and in pieces of 8,192 bytes.
 
 use crate::cuts::{
     BAD_FRAMING, BAD_HEAD, BODY_TOO_LONG, CUT, HEAD_TOO_LONG, Seen, is_read_in_blocks,

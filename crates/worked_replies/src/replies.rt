@@ -1,5 +1,5 @@
-//! Replies to GET and HEAD. Each text of the tables is fed whole, byte by byte, and in pieces of 7 and
-//! of 8,192 bytes, and must come out the same.
+//! Replies to GET and HEAD. Each text of the tables is fed whole, byte by byte, and in pieces of 7
+//! and of 8,192 bytes, and must come out the same.
 
 use crate::cuts::{
     BAD_FRAMING, BAD_HEAD, BODY_TOO_LONG, CUT, Seen, is_read_in_blocks, is_read_in_pieces,

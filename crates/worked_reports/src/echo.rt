@@ -10,8 +10,8 @@ use std::alloc::Global;
 /// The most bytes of a text that is read here, sixteen times those of a session.
 pub const MOST_BYTES: usize = 67_108_864;
 
-/// Reads a report and writes the run that it tells: the same text again. A text that is no report has
-/// the number, from 1, of the first line that can't follow those before it.
+/// Reads a report and writes the run that it tells: the same text again. A text that is no report
+/// has the number, from 1, of the first line that can't follow those before it.
 #[tactic(auto, using(crate::proofs::FewLines::few_lines))]
 pub fn written_again(alloc: Global, text: &[u8]) -> Result<Bytes, ReportFault>
     requires { length text.now ≤ MOST_BYTES }

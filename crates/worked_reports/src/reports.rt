@@ -22,8 +22,8 @@ const LINES: [&str; 12] = [
     "end\n",
 ];
 
-// The number of a line, what stands in its place, and the line at fault then; none, where the text is
-// still a report.
+// The number of a line, what stands in its place, and the line at fault then; none, where the text
+// is still a report.
 const CHANGED: [(usize, &str, Option<u32>); 42] = [
     (13, "", None),
     (

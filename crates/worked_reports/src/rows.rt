@@ -1,5 +1,5 @@
-//! A report with each row of each table of lines: every call with every reply, every event, and three
-//! outcomes.
+//! A report with each row of each table of lines: every call with every reply, every event, and
+//! three outcomes.
 
 pub(crate) const EVERY_ROW: &str = "authreport 1
 seed 000102030405060708090a0b0c0d0e0f101112131415161718191a1b1c1d1e1f

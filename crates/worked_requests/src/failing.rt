@@ -1,5 +1,6 @@
-//! The worked session, with each call of its links failing in turn: the request ends there as a failed
-//! link, behind the calls on the book that it makes without a failure, and it is ended in the book.
+//! The worked session, with each call of its links failing in turn: the request ends there as a
+//! failed link, behind the calls on the book that it makes without a failure, and it is ended in
+//! the book.
 
 ghost use Rattle.std.specs.Prelude.{◌≡◌, [], Some, length, replicate};
 ghost use Rattle.plain_book.specs.Words.{unused};
@@ -154,7 +155,8 @@ fn are_first(entries: &[Entry], many: usize) -> bool {
     entries.len().checked_sub(many) == Some(1) && is_entry(entries.last(), CALLS.last())
 }
 
-/// Whether the request ends so where this call of its links fails, behind so many calls on the book.
+/// Whether the request ends so where this call of its links fails, behind so many calls on the
+/// book.
 fn ends_by(alloc: Global, failing: u32, many: usize, wanted: Outcome) -> Result<bool, Fail> {
     let Served { trace, journal } = serve_worked(alloc, failing)?;
     Ok(outcome(&trace) == Some(wanted) && are_first(journal.entries(), many))

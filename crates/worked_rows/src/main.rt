@@ -1,6 +1,6 @@
-//! Worked sessions, row by row. Each of the program's words names one: the session of `NAME.session` is
-//! served by the top call, and its report has to be `NAME.report`, byte for byte. Those reports were made
-//! by a program that knows nothing of this one.
+//! Worked sessions, row by row. Each of the program's words names one: the session of
+//! `NAME.session` is served by the top call, and its report has to be `NAME.report`, byte for byte.
+//! Those reports were made by a program that knows nothing of this one.
 //!
 //! Exit status: 0 each report is the expected one, 1 one isn't, 4 a file or the output failed.
 #![tactic(auto)]

@@ -1,5 +1,5 @@
-//! Three requests of one book: the first is given an identity, the second finds it, and the third, of
-//! another partition, doesn't.
+//! Three requests of one book: the first is given an identity, the second finds it, and the third,
+//! of another partition, doesn't.
 
 ghost use Rattle.std.specs.Prelude.{◌≡◌, ◌<◌, ◌*◌, IfOk, IsTrue, length};
 

@@ -1,5 +1,5 @@
-//! One book for two partitions, whose requests are all for one URL, and what it replies to each of them
-//! where the other asks for nothing: the same, with prompts numbered among its own.
+//! One book for two partitions, whose requests are all for one URL, and what it replies to each of
+//! them where the other asks for nothing: the same, with prompts numbered among its own.
 
 use crate::tests::rows::{NO, Row};
 

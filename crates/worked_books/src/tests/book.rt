@@ -85,7 +85,8 @@ fn basic(alloc: Global, request: &Request) -> Result<Space, NoMemory> {
     Ok(Space::new(site, Scheme::Basic, realm))
 }
 
-/// A request of the host whose name is an `h` and that letter, in the partition of a `p` and that digit.
+/// A request of the host whose name is an `h` and that letter, in the partition of a `p` and that
+/// digit.
 fn request_of_host(alloc: Global, host: u8, side: u8) -> Result<Request, NoMemory> {
     let mut url = Bytes::from_slice(alloc, b"http://h")?;
     url.push(host)?;
@@ -118,8 +119,10 @@ fn identity(alloc: Global, user: &[u8]) -> Result<Identity, NoMemory> {
 /// Whether the book may name one more space and one more text.
 fn has_room<B: Controller>(book: &B, roster: &Roster) -> bool
     requires { B.roster book.now ≡ roster.now }
-    ensures spaces { IsTrue result → length (B.names book.now).spaces < 64 * length (B.roster book.now).requests }
-    ensures texts { IsTrue result → length (B.names book.now).texts < 64 * length (B.roster book.now).requests }
+    ensures spaces { IsTrue result
+        → length (B.names book.now).spaces < 64 * length (B.roster book.now).requests }
+    ensures texts { IsTrue result
+        → length (B.names book.now).texts < 64 * length (B.roster book.now).requests }
 {
     let names = book.names();
     let spaces = names.spaces_len();
@@ -193,7 +196,8 @@ fn name_all<B: Controller>(
     Ok(())
 }
 
-/// Sees that the call is allowed, and that its reply is the row's. It answers the nonce that it took out.
+/// Sees that the call is allowed, and that its reply is the row's. It answers the nonce that it
+/// took out.
 pub(crate) fn play_one<B: Controller>(
     rt: &impl Abort,
     book: &mut B,
@@ -282,8 +286,8 @@ fn play_by_index(
     play_all(rt, alloc, &mut book, roster, rows)
 }
 
-/// A book that scans its journal and one that decides by its index reply as the rows say, and both have so
-/// many entries behind them.
+/// A book that scans its journal and one that decides by its index reply as the rows say, and both
+/// have so many entries behind them.
 pub(crate) fn played_on(
     rt: &impl Abort,
     alloc: Global,

@@ -60,7 +60,9 @@ fn is_home(names: &Names, space: u32, terms: &Terms) -> bool
 /// Whether the book may name terms and a nonce more.
 fn has_room_for_terms<B: Controller>(book: &B, roster: &Roster) -> bool
     requires { B.roster book.now ≡ roster.now }
-    ensures { IsTrue result → (length (B.names book.now).terms < 64 * length (B.roster book.now).requests) × (length (B.names book.now).nonces < 16 * length (B.roster book.now).requests) }
+    ensures { IsTrue result
+        → (length (B.names book.now).terms < 64 * length (B.roster book.now).requests)
+        × (length (B.names book.now).nonces < 16 * length (B.roster book.now).requests) }
 {
     let names = book.names();
     let terms = names.terms_len() as usize;
@@ -115,7 +117,8 @@ fn is_refused<B: Controller>(
     requires words { words.old ≡ record { count = wanted.epoch; epoch = wanted.epoch } ∷ [] }
     requires few { wanted.epoch < 1000 }
     ensures roster { B.roster book.new ≡ roster.now }
-    ensures words { OnOk result (words.new ≡ record { count = wanted.epoch + 1; epoch = wanted.epoch + 1 } ∷ []) }
+    ensures words { OnOk result (words.new
+        ≡ record { count = wanted.epoch + 1; epoch = wanted.epoch + 1 } ∷ []) }
 {
     name_text(rt, alloc, book, roster, b"u")?;
     play_answer(rt, book, roster, prompt);
@@ -208,8 +211,8 @@ fn counts_by_index(rt: &impl Abort, alloc: Global, roster: &Roster) -> Result<()
     counts_on(rt, alloc, &mut book, roster)
 }
 
-/// A Digest server always sends one nonce, to a book that scans its journal and to one that decides by its
-/// index.
+/// A Digest server always sends one nonce, to a book that scans its journal and to one that decides
+/// by its index.
 pub(crate) fn counts_go_on(rt: &impl Abort, alloc: Global) -> Result<(), NoMemory> {
     let roster = roster(alloc)?;
     counts_by_index(rt, alloc, &roster)?;

@@ -44,7 +44,8 @@ fn holds_second(rt: &impl Abort, part: &PartRow) {
     assert!(rt; cache.entries() == [SECOND].as_slice());
 }
 
-/// One partition with one space, two prompts of it, and two requests that may draw on 16 nonces each.
+/// One partition with one space, two prompts of it, and two requests that may draw on 16 nonces
+/// each.
 fn shows_second(rt: &impl Abort, index: &BookIndex) {
     let BookIndex {
         partitions,

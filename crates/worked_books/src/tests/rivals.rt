@@ -18,8 +18,8 @@ pub(crate) enum Rivals {
 }
 
 impl Rivals {
-    /// The hosts of the requests: of the 32 spaces that are given, then of the first, of one more and of
-    /// the one that is evicted for it, and then of each that stays.
+    /// The hosts of the requests: of the 32 spaces that are given, then of the first, of one more
+    /// and of the one that is evicted for it, and then of each that stays.
     pub(crate) fn hosts(self) -> &'static [u8] {
         match self {
             Rivals::OfOneSide => {
@@ -87,8 +87,9 @@ fn push_live(rows: &mut Vec<Row>, request: u32, space: u32) -> Result<(), NoMemo
     Ok(())
 }
 
-/// Behind so many others 32 requests are each given credentials in a space of their own. One more finds
-/// the first of these spaces, and the next is given credentials in a 33rd, for which one is evicted.
+/// Behind so many others 32 requests are each given credentials in a space of their own. One more
+/// finds the first of these spaces, and the next is given credentials in a 33rd, for which one is
+/// evicted.
 fn push_filling(rows: &mut Vec<Row>, others: u32, evicted: u32) -> Result<(), NoMemory>
     requires { others ≤ 1 }
 {

@@ -69,8 +69,8 @@ fn source_row(n: u32) -> Option<Row> {
     Some(row)
 }
 
-/// A request over a proxy with an identity in its URL, two of the same host, and one that may have the
-/// default identity.
+/// A request over a proxy with an identity in its URL, two of the same host, and one that may have
+/// the default identity.
 fn roster(alloc: Global) -> Result<Roster, NoMemory> {
     let mut requests = Requests::new(alloc);
     requests.push(request_over(alloc, b"main", b"http://ann:pw@a.example/", PROXY)?)?;
@@ -190,7 +190,8 @@ fn play_sources<B: Controller>(rt: &impl Abort, book: &mut B, roster: &Roster)
     }
 }
 
-/// What the numbers stand for afterwards: gifts for their users, terms for their nonces, and spaces.
+/// What the numbers stand for afterwards: gifts for their users, terms for their nonces, and
+/// spaces.
 fn stand_still<B: Controller>(rt: &impl Abort, alloc: Global, book: &B) -> Result<(), NoMemory> {
     for n in 0..4 {
         let (space, ordinal, user) = gift_row(n);

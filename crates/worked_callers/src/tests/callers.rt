@@ -1,5 +1,5 @@
-//! What a caller of a shared book does in a history. A call is made where it is allowed, and has the
-//! reply that the history says.
+//! What a caller of a shared book does in a history. A call is made where it is allowed, and has
+//! the reply that the history says.
 
 ghost use Rattle.std.specs.Prelude.{◌≡◌, ◌≤◌, ◌<◌, ◌+◌, ◌*◌, ◌++◌, ◌∷◌, [], All, length, IsTrue};
 ghost use Rattle.auth_events.specs.declared.journal.BookReply.TheVariants.{Begun};
@@ -109,7 +109,8 @@ fn begins_first<R: Wait + Abort>(
     requires roster { shared.now.roster ≡ roster.now }
     ensures caller { IsCallerOf shared.now result }
     ensures same { IsSameCaller caller result }
-    ensures mine { result.mine ≡ Made (record { caller = number; request = number; call = Begin; reply = Begun }) ∷ [] }
+    ensures mine { result.mine
+        ≡ Made (record { caller = number; request = number; call = Begin; reply = Begun }) ∷ [] }
 {
     let (caller, may) = may_call(rt, shared, roster, caller, number, number, Call::Begin);
     assert!(rt; may);

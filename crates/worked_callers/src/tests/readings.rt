@@ -1,5 +1,5 @@
-//! What the numbers that a caller has seen stand for. A caller asks for the thing of a number once it
-//! knows, by a reading of its own, that the number stands for one.
+//! What the numbers that a caller has seen stand for. A caller asks for the thing of a number once
+//! it knows, by a reading of its own, that the number stands for one.
 
 ghost use Rattle.std.specs.Prelude.{◌≡◌, ⊤, is_some, reverse};
 ghost use Rattle.spaces.specs.Sites.{numbered};

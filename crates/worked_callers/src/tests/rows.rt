@@ -1,5 +1,5 @@
-//! Two worked histories by callers of one book: followers that wait for the one answer of a prompt, and a
-//! rejection that comes when a newer gift is there.
+//! Two worked histories by callers of one book: followers that wait for the one answer of a prompt,
+//! and a rejection that comes when a newer gift is there.
 
 ghost use Rattle.std.specs.Prelude.{◌≡◌, All, length};
 ghost use Rattle.shared_book.specs.Callers.{AreNewCallers, IsCallerOf};

@@ -103,8 +103,8 @@ fn bit(count: u32) -> u64 {
     if count < 64 { 1 << count } else { 0 }
 }
 
-// Asks for a gift twice, at first when all others ask too, and draws with both. The counts come with
-// it, a bit each.
+// Asks for a gift twice, at first when all others ask too, and draws with both. The counts come
+// with it, a bit each.
 fn shares<R: Wait + Abort>(
     rt: &R,
     shared: &Shared,
