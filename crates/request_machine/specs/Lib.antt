@@ -1,4 +1,5 @@
 pub mod Kept
+pub mod OpenLinks
 pub mod Told
 pub mod Heads
 pub mod Making

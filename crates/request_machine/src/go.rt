@@ -9,6 +9,7 @@ use crate::close::closing_by;
 use crate::holding::Holding;
 use crate::known::{Lack, kept_drew, link_told, nonce_next, unbound_readiness};
 use crate::machine::Machine;
+use crate::open_link::OpenLink;
 use crate::stage::{Piece, Stage};
 use auth_events::Drawn;
 use auth_runs::{Event, Outcome};
@@ -120,7 +121,7 @@ impl Machine {
         };
         match FreeLink::dial(dialer, name, next_hop(request)) {
             DialEnd::Link(link) => {
-                self.put_link(link);
+                self.put_link(OpenLink::new(link));
                 self.dialed();
             }
             DialEnd::Failed { count } => self.dial_failed(count),

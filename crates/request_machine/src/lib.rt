@@ -29,6 +29,7 @@ mod machine;
 mod naming;
 mod need;
 mod needs;
+mod open_link;
 mod pick;
 mod read;
 mod renew;

@@ -4,11 +4,11 @@
 ghost use Rattle.std.specs.Prelude.{◌≡◌, None};
 
 use crate::holding::Holding;
+use crate::open_link::OpenLink;
 use crate::stage::Stage;
 use auth_events::{Call, Gift};
 use auth_runs::Event;
 use auth_text::{Identity, NoMemory};
-use connection_binding::FreeLink;
 use spaces::{Request, Roster, Space, Target, Terms};
 use std::alloc::Global;
 use std::marker::Model;
@@ -38,7 +38,7 @@ pub struct Machine {
     pub(crate) unnamed_space: Option<Space>,
     pub(crate) unnamed_terms: Option<Terms>,
     pub(crate) space: Option<Space>,
-    pub(crate) link: Option<FreeLink>,
+    pub(crate) link: Option<OpenLink>,
 }
 
 impl Model for Machine {
@@ -208,7 +208,7 @@ impl Machine {
     }
 
     /// Keeps the link.
-    pub(crate) fn put_link(&mut self, link: FreeLink)
+    pub(crate) fn put_link(&mut self, link: OpenLink)
         requires { self.old.link ≡ None }
         ensures { self.new ≡ record self.old { link = Some link } }
     {

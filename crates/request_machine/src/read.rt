@@ -1,6 +1,6 @@
 //! The reply to a head, and what it asks for. A free link is closed behind each reply.
 
-ghost use Rattle.link_trait.specs.Links.{has_link};
+ghost use Rattle.link_trait.specs.Links.{has_link, without_link};
 ghost use Rattle.connection_binding.specs.Ends.{IsReadFault, IsNoReadFault};
 ghost use Rattle.connection_binding.specs.Readings.{IsReplyRead};
 ghost use Rattle.request_machine.specs.Reads.{IsFitRead};
@@ -9,11 +9,12 @@ ghost use Rattle.request_machine.specs.Replies.{challenged_told};
 
 use crate::close::closing_by;
 use crate::machine::Machine;
+use crate::open_link::OpenLink;
 use crate::renew::stage_answered;
 use crate::stage::{Closing, Stage};
 use auth_runs::{Event, Outcome, Reply, WireFault};
 use auth_text::NoMemory;
-use connection_binding::{FreeLink, ReadEnd};
+use connection_binding::ReadEnd;
 use link_trait::Dialer;
 use spaces::{Method, Request, Target};
 use std::alloc::Global;
@@ -41,7 +42,7 @@ impl Machine {
     ghost use Rattle.request_machine.specs.Linked.{line, way, is_away, IsLinked, IsOnlyLink};
     ghost use Rattle.request_machine.specs.Linked.{AreDialsOf, IsDriven};
 
-    /// Reads over the open link.
+    /// Reads over the open link, and closes it.
     pub(crate) fn read_link<D: Dialer>(
         &mut self,
         alloc: Global,
@@ -56,29 +57,12 @@ impl Machine {
         ensures later { D.faults dialer.old ≤ D.faults dialer.new }
         ensures fault { IsReadFault D.sticks (D.faults dialer.old) (D.faults dialer.new) result }
         ensures quiet { D.quiet dialer.old → D.quiet dialer.new × IsNoReadFault result }
-        ensures same { self.new ≡ self.old }
-        ensures dials { D.dials dialer.new ≡ D.dials dialer.old }
-        ensures opened { D.opened dialer.new ≡ D.opened dialer.old }
-    {
-        match &mut self.link {
-            Some(link) => read_over(link, alloc, dialer, method),
-            None => unreachable!(),
-        }
-    }
-
-    /// Closes the open link.
-    pub(crate) fn close_link<D: Dialer>(&mut self, dialer: &mut D)
-        requires { IsLinkOpen self.old.link (D.opened dialer.old) }
         ensures same { self.new ≡ record self.old { link = None } }
         ensures dials { D.dials dialer.new ≡ D.dials dialer.old }
         ensures opened { D.opened dialer.new ≡ opened_without self.old.link (D.opened dialer.old) }
-        ensures traffic { D.traffic dialer.new ≡ D.traffic dialer.old }
-        ensures streams { D.streams dialer.new ≡ D.streams dialer.old }
-        ensures faults { D.faults dialer.new ≡ D.faults dialer.old }
-        ensures quiet { D.quiet dialer.old → D.quiet dialer.new }
     {
         match self.link.take() {
-            Some(link) => link.spend(dialer),
+            Some(link) => read_over(link, alloc, dialer, method),
             None => unreachable!(),
         }
     }
@@ -119,9 +103,7 @@ impl Machine {
         ensures nearer { turns_left self.new < turns_left self.old }
         ensures insides { insides self.new.past ≡ insides self.old.past }
     {
-        let end = self.read_link(alloc, dialer, request.method);
-        self.close_link(dialer);
-        match end {
+        match self.read_link(alloc, dialer, request.method) {
             ReadEnd::Whole(reply) => self.replied(alloc, request, link, reply),
             ReadEnd::Broken(fault) => self.broken(link, fault),
             ReadEnd::Lost => unreachable!(),
@@ -232,23 +214,17 @@ pub(crate) fn challenged_told(is_proxied: bool, code: u16) -> Option<Target>
 
 /// Reads over a link. A reply that is read has a final code, and challenges only where it is one.
 #[tactic(auto, using(crate::proofs::Fitting::fit_read))]
-fn read_over<D: Dialer>(
-    link: &mut FreeLink,
-    alloc: Global,
-    dialer: &mut D,
-    method: Method,
-) -> ReadEnd
-    requires { has_link link.old (D.opened dialer.old) ≡ true }
+fn read_over<D: Dialer>(link: OpenLink, alloc: Global, dialer: &mut D, method: Method) -> ReadEnd
+    requires { has_link link (D.opened dialer.old) ≡ true }
     ensures fit { IsFitRead result }
-    ensures reply { IsReplyRead link.old method
+    ensures reply { IsReplyRead link method
         (D.streams dialer.old) (D.traffic dialer.old) (D.traffic dialer.new) result }
     ensures streams { D.streams dialer.new ≡ D.streams dialer.old }
     ensures later { D.faults dialer.old ≤ D.faults dialer.new }
     ensures fault { IsReadFault D.sticks (D.faults dialer.old) (D.faults dialer.new) result }
     ensures quiet { D.quiet dialer.old → D.quiet dialer.new × IsNoReadFault result }
-    ensures link { link.new ≡ link.old }
     ensures dials { D.dials dialer.new ≡ D.dials dialer.old }
-    ensures opened { D.opened dialer.new ≡ D.opened dialer.old }
+    ensures opened { D.opened dialer.new ≡ without_link link (D.opened dialer.old) }
 {
     carried();
     link.read(alloc, dialer, method)

@@ -134,8 +134,13 @@ impl Machine {
         self.stage = Stage::Read(link);
     }
 
-    /// Sends the bytes over the open link.
-    pub(crate) fn send_bytes<D: Dialer>(&mut self, dialer: &mut D, bytes: &[u8]) -> SendEnd
+    /// Sends the bytes over the open link, which they bind where they carry a token.
+    pub(crate) fn send_bytes<D: Dialer>(
+        &mut self,
+        dialer: &mut D,
+        bytes: &[u8],
+        binds: bool,
+    ) -> SendEnd
         requires { IsLinkOpen self.old.link (D.opened dialer.old) }
         ensures same { self.new ≡ self.old }
         ensures traffic { IfSome self.old.link (λ link. Sends
@@ -147,8 +152,12 @@ impl Machine {
         ensures dials { D.dials dialer.new ≡ D.dials dialer.old }
         ensures opened { D.opened dialer.new ≡ D.opened dialer.old }
     {
-        match &mut self.link {
-            Some(link) => link.send(dialer, bytes),
+        match self.link.take() {
+            Some(link) => {
+                let (link, end) = link.send(dialer, bytes, binds);
+                self.put_link(link);
+                end
+            }
             None => unreachable!(),
         }
     }
@@ -191,7 +200,8 @@ impl Machine {
         match self.next_head(alloc, request) {
             Err(NoMemory) => self.spend(),
             Ok(bytes) => {
-                let end = self.send_bytes(dialer, bytes.as_slice());
+                let binds = self.keeps();
+                let end = self.send_bytes(dialer, bytes.as_slice(), binds);
                 let link = self.links;
                 self.headed(request, bytes);
                 match end {

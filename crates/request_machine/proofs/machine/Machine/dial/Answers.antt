@@ -24,7 +24,7 @@ returns-in-Link-clause-dials g c = λ s before same t told.
 pub returns-in-Link-clause-driven : goal.returns-in-Link-clause-driven
 returns-in-Link-clause-driven g c =
     driven_given c.args.self.now _ _ (record { request = c.self.inside.number; nth = c.self.inside.links + 1 }) _ _ _ _ _ _
-    c.requires.stage c.requires.undialed (ap (λ (v : Kept). record { request = v.number; nth = v.links + 1 }) c.self.view_is) c.in-Link.ensures.link
+    c.requires.stage c.requires.undialed (ap (λ (v : Kept). record { request = v.number; nth = v.links + 1 }) c.self.view_is) (c.new.ensures ∙ c.in-Link.ensures.link)
     c.put_link.ensures c.dialed.ensures.stage c.dialed.ensures.line c.in-Link.ensures.opened c.in-Link.ensures.dials
     c.requires.linked c.requires.links c.requires.told
 
@@ -48,11 +48,11 @@ returns-in-Failed-clause-less g c = less_left c.args.self.now c.dial_failed.new.
 
 pub returns-in-Link-clause-unprompted : goal.returns-in-Link-clause-unprompted
 returns-in-Link-clause-unprompted g c =
-    unprompted_dialed c.args.self.now c.put_link.new.self c.dialed.new.self c.in-Link.link c.put_link.ensures c.dialed.ensures.past c.dialed.ensures.line
+    unprompted_dialed c.args.self.now c.put_link.new.self c.dialed.new.self c.new.result c.put_link.ensures c.dialed.ensures.past c.dialed.ensures.line
 
 pub returns-in-Link-clause-traffic : goal.returns-in-Link-clause-traffic
 returns-in-Link-clause-traffic g c =
-    tells_dialed c.args.request.now c.args.self.now c.put_link.new.self c.dialed.new.self c.in-Link.link _ _ _
+    tells_dialed c.args.request.now c.args.self.now c.put_link.new.self c.dialed.new.self c.new.result _ _ _
     c.requires.stage c.put_link.ensures c.dialed.ensures.past c.dialed.ensures.line c.in-Link.ensures.traffic
 
 pub returns-in-Link-clause-faults : goal.returns-in-Link-clause-faults
