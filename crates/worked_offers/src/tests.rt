@@ -1,5 +1,8 @@
 //! Offers of whole replies, by examples of the RFCs.
 
+ghost use Rattle.std.specs.Prelude.{IsTrue};
+ghost use Rattle.spaces.specs.ProtectionSpaces.{has_realm};
+
 use auth_text::{Bytes, NoMemory};
 use challenge_offers::{Offer, best_offer, deciding_offer, next_nonce};
 use spaces::{Algorithm, Origin, Partition, Scheme, Site, Space, Target};
@@ -61,70 +64,92 @@ const SHA_512: &[u8] =
 /// RFC 7235 section 4.1.
 const TWO: &[u8] = b"Newauth realm=\"apps\", type=1, title=\"Login\", Basic realm=\"simple\"";
 
-#[test]
-fn the_best_challenge_is_taken(rt: HostRuntime) -> Result<(), Fail> {
-    let alloc = rt.alloc();
-    let rows: [(&[&[u8]], bool, Taken); 8] = [
-        (&[TWO], true, Taken::Basic),
-        (&[TWO, MD5], true, Taken::Digest(Algorithm::Md5, false)),
-        (
+/// The challenges of a reply, whether tokens can be made, and what is taken.
+fn best_row(n: u32) -> (&'static [&'static [u8]], bool, Taken) {
+    match n {
+        0 => (&[TWO], true, Taken::Basic),
+        1 => (&[TWO, MD5], true, Taken::Digest(Algorithm::Md5, false)),
+        2 => (
             &[SHA_256, MD5],
             true,
             Taken::Digest(Algorithm::Sha256, false),
         ),
-        (&[SHA_512, STALE], true, Taken::Digest(Algorithm::Md5, true)),
-        (&[SHA_512], true, Taken::Nothing),
-        (&[MD5, b"Negotiate"], true, Taken::Negotiate),
-        (
+        3 => (&[SHA_512, STALE], true, Taken::Digest(Algorithm::Md5, true)),
+        4 => (&[SHA_512], true, Taken::Nothing),
+        5 => (&[MD5, b"Negotiate"], true, Taken::Negotiate),
+        6 => (
             &[MD5, b"Negotiate"],
             false,
             Taken::Digest(Algorithm::Md5, false),
         ),
-        (
+        _ => (
             &[b"Basic QWxhZGRpbg==", b"Negotiate a=b"],
             true,
             Taken::Nothing,
         ),
-    ];
-    for (values, negotiates, expected) in rows {
-        let reply = challenged(alloc, values).map_err(|_| "memory")?;
-        let offer = best_offer(alloc, negotiates, &reply).map_err(|_| "memory")?;
-        assert_eq!(rt; seen(offer.as_ref()), expected);
+    }
+}
+
+fn best(alloc: Global, values: &[&[u8]], negotiates: bool) -> Result<Taken, NoMemory> {
+    let reply = challenged(alloc, values)?;
+    let offer = best_offer(alloc, negotiates, &reply)?;
+    Ok(seen(offer.as_ref()))
+}
+
+#[test]
+fn the_best_challenge_is_taken(rt: HostRuntime) -> Result<(), Fail> {
+    for n in 0..8 {
+        let (values, negotiates, expected) = best_row(n);
+        let taken = best(rt.alloc(), values, negotiates)?;
+        assert_eq!(rt; taken, expected, "row {n}");
     }
     Ok(())
 }
 
 /// The server of the examples.
-fn server(alloc: Global) -> Result<Site, Fail> {
+fn server(alloc: Global) -> Result<Site, NoMemory> {
+    let Ok(partition) = Partition::new(alloc, b"main") else {
+        return Err(NoMemory);
+    };
+    let host = Bytes::from_slice(alloc, b"www.example.org")?;
     Ok(Site {
-        partition: Partition::new(alloc, b"main").map_err(|_| "memory")?,
+        partition,
         target: Target::Server,
-        origin: Origin {
-            host: Bytes::from_slice(alloc, b"www.example.org").map_err(|_| "memory")?,
-            port: 80,
-        },
+        origin: Origin { host, port: 80 },
     })
 }
 
-#[test]
-fn the_first_challenge_of_a_space_decides(rt: HostRuntime) -> Result<(), Fail> {
-    let alloc = rt.alloc();
-    let reply = challenged(alloc, &[TWO, STALE, MD5]).map_err(|_| "memory")?;
-    let rows: [(Scheme, &[u8], Taken); 4] = [
-        (Scheme::Basic, b"simple", Taken::Basic),
-        (Scheme::Basic, b"apps", Taken::Nothing),
-        (
+/// A space's scheme and realm, and the challenge that decides on what is held of it.
+fn deciding_row(n: u32) -> (Scheme, &'static [u8], Taken)
+    ensures { IsTrue (has_realm result.0 result.1.now) }
+{
+    match n {
+        0 => (Scheme::Basic, b"simple", Taken::Basic),
+        1 => (Scheme::Basic, b"apps", Taken::Nothing),
+        2 => (
             Scheme::Digest,
             b"http-auth@example.org",
             Taken::Digest(Algorithm::Md5, true),
         ),
-        (Scheme::Digest, b"simple", Taken::Nothing),
-    ];
-    for (scheme, realm, expected) in rows {
-        let realm = Bytes::from_slice(alloc, realm).map_err(|_| "memory")?;
-        let space = Space::new(server(alloc)?, scheme, realm);
-        let offer = deciding_offer(alloc, &server(alloc)?, &space, &reply).map_err(|_| "memory")?;
-        assert_eq!(rt; seen(offer.as_ref()), expected);
+        _ => (Scheme::Digest, b"simple", Taken::Nothing),
+    }
+}
+
+fn deciding(alloc: Global, reply: &Reply, scheme: Scheme, realm: &[u8]) -> Result<Taken, NoMemory>
+    requires { IsTrue (has_realm scheme realm.now) }
+{
+    let space = Space::new(server(alloc)?, scheme, Bytes::from_slice(alloc, realm)?);
+    let offer = deciding_offer(alloc, &server(alloc)?, &space, reply)?;
+    Ok(seen(offer.as_ref()))
+}
+
+#[test]
+fn the_first_challenge_of_a_space_decides(rt: HostRuntime) -> Result<(), Fail> {
+    let reply = challenged(rt.alloc(), &[TWO, STALE, MD5])?;
+    for n in 0..4 {
+        let (scheme, realm, expected) = deciding_row(n);
+        let taken = deciding(rt.alloc(), &reply, scheme, realm)?;
+        assert_eq!(rt; taken, expected, "row {n}");
     }
     Ok(())
 }
@@ -132,19 +157,18 @@ fn the_first_challenge_of_a_space_decides(rt: HostRuntime) -> Result<(), Fail> {
 #[test]
 fn an_offer_has_its_space(rt: HostRuntime) -> Result<(), Fail> {
     let alloc = rt.alloc();
-    let realm = Bytes::from_slice(alloc, b"simple").map_err(|_| "memory")?;
+    let realm = Bytes::from_slice(alloc, b"simple")?;
     let offer = Offer::Basic { realm };
-    let space = offer.space_at(alloc, server(alloc)?).map_err(|_| "memory")?;
+    let space = offer.space_at(alloc, server(alloc)?)?;
     assert_eq!(rt; space.realm(), b"simple".as_slice());
     assert!(rt; offer.is_of_space(&server(alloc)?, &space));
     Ok(())
 }
 
-#[test]
-fn the_first_next_nonce_is_read(rt: HostRuntime) -> Result<(), Fail> {
-    let alloc = rt.alloc();
-    let infos: [(&[&[u8]], Option<&[u8]>); 3] = [
-        (
+/// Infos of a reply, and the nonce that they have.
+fn nonce_row(n: u32) -> (&'static [&'static [u8]], Option<&'static [u8]>) {
+    match n {
+        0 => (
             &[
                 b"qop=auth",
                 b"rspauth=\"\", nextnonce=\"b\"",
@@ -152,13 +176,27 @@ fn the_first_next_nonce_is_read(rt: HostRuntime) -> Result<(), Fail> {
             ],
             Some(b"b"),
         ),
-        (&[b"qop=auth"], None),
-        (&[], None),
-    ];
-    for (values, expected) in infos {
-        let values = fields(alloc, values).map_err(|_| "memory")?;
-        let nonce = next_nonce(alloc, values.as_slice()).map_err(|_| "memory")?;
-        assert_eq!(rt; nonce.as_ref().map(|nonce| nonce.as_slice()), expected);
+        1 => (&[b"qop=auth"], None),
+        _ => (&[], None),
+    }
+}
+
+/// Whether the first next nonce of the infos is that one, or there is none.
+fn has_nonce(alloc: Global, values: &[&[u8]], expected: Option<&[u8]>) -> Result<bool, NoMemory> {
+    let values = fields(alloc, values)?;
+    let nonce = next_nonce(alloc, values.as_slice())?;
+    Ok(match (&nonce, expected) {
+        (Some(nonce), Some(expected)) => nonce.as_slice() == expected,
+        (None, None) => true,
+        _ => false,
+    })
+}
+
+#[test]
+fn the_first_next_nonce_is_read(rt: HostRuntime) -> Result<(), Fail> {
+    for n in 0..3 {
+        let (values, expected) = nonce_row(n);
+        assert!(rt; has_nonce(rt.alloc(), values, expected)?, "row {n}");
     }
     Ok(())
 }
