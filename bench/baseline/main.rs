@@ -1,11 +1,13 @@
-//! The kernels of bench_core as a plain Rust program writes them: the same words, the same input and
-//! the same answers, over the standard library and, for hashes, the crates `md-5` and `sha2`.
+//! The kernels of bench_core and the takes of bench_callers as a plain Rust program writes them: the same
+//! words, the same input and the same answers, over the standard library and, for hashes, the crates `md-5`
+//! and `sha2`.
 
 mod challenges;
 mod draws;
 mod replies;
 #[cfg(feature = "hashes")]
 mod respond;
+mod takes;
 mod turns;
 
 use std::process::ExitCode;
@@ -23,6 +25,9 @@ fn run(kernel: &str, times: u32) -> Option<u32> {
         "turns2" => Some(turns::run(2, times)),
         "turns4" => Some(turns::run(4, times)),
         "turns16" => Some(turns::run(16, times)),
+        "takes1" => Some(takes::run(1, times)),
+        "takes2" => Some(takes::run(2, times)),
+        "takes4" => Some(takes::run(4, times)),
         "draws1" => Some(draws::run(1, times)),
         "draws2" => Some(draws::run(2, times)),
         "draws4" => Some(draws::run(4, times)),
