@@ -202,3 +202,27 @@ fn gears_come_back(rt: HostRuntime) -> Result<(), Fail> {
     assert_eq!(rt; output.bytes(), EMPTY.as_bytes());
     Ok(())
 }
+
+/// The worked session's status and text, over a sink that takes 100 bytes a write and fails at one.
+fn run_failing(alloc: Global, number: u32) -> Result<(Status, MemSink), Fail> {
+    let input = source(alloc, SESSION.as_bytes(), &[])?;
+    let output = MemSink::new(alloc, 100, calls(alloc, &[number])?);
+    run(alloc, "alone", input, output)
+}
+
+#[test]
+fn each_write_fails(rt: HostRuntime) -> Result<(), Fail> {
+    let mut held = 0usize;
+    for number in 1..9 {
+        let (ended, output) = run_failing(rt.alloc(), number)?;
+        let bytes = output.bytes();
+        assert_eq!(rt; ended, Status::WriteFault, "at write {number}");
+        assert!(rt; REPORT.as_bytes().starts_with(bytes), "at write {number}");
+        assert_eq!(rt; bytes.len(), held, "at write {number}");
+        held = held.wrapping_add(100);
+    }
+    let (ended, output) = run_failing(rt.alloc(), 9)?;
+    assert_eq!(rt; ended, Status::Done);
+    assert_eq!(rt; output.bytes(), REPORT.as_bytes());
+    Ok(())
+}
