@@ -1,5 +1,5 @@
--- A book that has told nothing, and words that were not drawn, are ready for the only request of a roster.
-use Rattle.std.proofs.Common.{◌≡◌, ◌*◌, List, [], length, None, sym, ap, ◌∙◌, arith}
+-- A book that has told nothing, and words that were not drawn, are ready for the first request of a roster.
+use Rattle.std.proofs.Common.{◌≡◌, ℕ, ◌*◌, List, [], length, None, sym, ap, ◌∙◌, arith}
 use Rattle.std.specs.Prelude.{replicate, IsSome}
 use Rattle.spaces.specs.declared.roster.Roster.{Roster}
 use Rattle.spaces.specs.Sites.{numbered}
@@ -17,9 +17,9 @@ use Rattle.lone_caller.proofs.Going.{there}
 abbrev silent : Outside
 silent = record { streams = λ link. ended []; steps = λ r n. NoMechanism; answers = λ space n. None }
 
-pub first_ready : (roster : Roster) (told : List Told) (words : List Drawn) → length roster.requests ≡ 1 → told ≡ [] → words ≡ replicate 16 unused → IsReady roster told words 1
-first_ready roster told words one untold undrawn =
-    next_ready silent roster [] [] told words (omega arith) (untold, undrawn ∙ ap (λ n. replicate (16 * n) unused) (sym one))
+pub first_ready : (roster : Roster) (told : List Told) (words : List Drawn) (many : ℕ) → length roster.requests ≡ many → told ≡ [] → words ≡ replicate (16 * many) unused → IsReady roster told words 1
+first_ready roster told words many so_many untold undrawn =
+    next_ready silent roster [] [] told words (omega arith) (untold, undrawn ∙ ap (λ n. replicate (16 * n) unused) (sym so_many))
 
 pub first_there : (roster : Roster) → length roster.requests ≡ 1 → IsSome (numbered roster.requests 1)
 first_there roster one = there roster 0 (omega (arith, one))

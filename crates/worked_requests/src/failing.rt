@@ -1,69 +1,30 @@
-//! The worked session, with each call of its links failing in turn: the request ends there as a
+//! Worked sessions, with each call of their links failing in turn: the request ends there as a
 //! failed link, behind the calls on the book that it makes without a failure, and it is ended in
 //! the book.
 
 ghost use Rattle.std.specs.Prelude.{◌≡◌, [], Some, length, replicate};
 ghost use Rattle.plain_book.specs.Words.{unused};
 
+use crate::calls::{CALLS, PROXIED, PROXIED_CALLS, SESSION};
 use auth_controller::{Gear, serve_alone};
-use auth_events::{BookReply, Call, Controller, Entry, Gift, Journal};
+use auth_events::{BookReply, Call, Controller, Entry, Journal};
 use auth_runs::{Event, Outcome, Trace};
 use auth_text::NoMemory;
 use link_trait::{Calls, Dialer, Prompter, RecordedDialer, ScriptPrompter, ScriptTokens, Tokens};
 use plain_book::{PlainBook, PlainWords};
 use session_text::{Session, read_session};
-use spaces::{Roster, Target};
+use spaces::Roster;
 use std::alloc::Global;
 use std::test::Fail;
 
-const SESSION: &str = "authfetch 1
-request GET main http://intra.example/
-link HTTP/1.1%20401%20Unauthorized%0D%0AWWW-Authenticate:%20Basic%20realm=\"x\"%0D%0AContent-Length:%200%0D%0A%0D%0A
-link HTTP/1.1%20200%20OK%0D%0AContent-Length:%202%0D%0A%0D%0Aok
-answer main server http://intra.example/ basic x give Aladdin open%20sesame
-";
-
-/// The calls on the book of the worked session where nothing fails, and their replies.
-const CALLS: [(Call, BookReply); 6] = [
-    (Call::Begin, BookReply::Begun),
-    (
-        Call::Preempt {
-            target: Target::Server,
-        },
-        BookReply::Nothing,
-    ),
-    (
-        Call::Select { space: 1, terms: 0 },
-        BookReply::Lead {
-            prompt: 1,
-            ordinal: 1,
-        },
-    ),
-    (
-        Call::Answer {
-            prompt: 1,
-            text: 1,
-            terms: 0,
-        },
-        BookReply::Given {
-            gift: Gift {
-                space: 1,
-                ordinal: 1,
-            },
-            evicted: 0,
-        },
-    ),
-    (
-        Call::Note {
-            gift: Gift {
-                space: 1,
-                ordinal: 1,
-            },
-        },
-        BookReply::Noted,
-    ),
-    (Call::End, BookReply::Ended),
-];
+/// Which call of a request's links failed, with the link's number.
+#[derive(Clone, Copy, Debug, PartialEq, Eq)]
+enum Failure {
+    Nothing,
+    Dial(u32),
+    Write(u32),
+    Read(u32),
+}
 
 /// What is left of a request that was served: its trace, and the book's journal.
 #[derive(Drop)]
@@ -114,9 +75,13 @@ fn serve(alloc: Global, session: Session, failing: Calls) -> Result<Served, NoMe
     Ok(Served { trace, journal })
 }
 
-/// Serves the worked session's request, with one call of its links failing.
-fn serve_worked(alloc: Global, failing: u32) -> Result<Served, Fail> {
-    let session = match read_session(alloc, SESSION.as_bytes()) {
+/// Serves the only request of a session's text, with one call of its links failing.
+fn serve_text(alloc: Global, text: &str, failing: u32) -> Result<Served, Fail> {
+    let text = text.as_bytes();
+    if text.len() > 4_194_304 {
+        return Err("no session".into());
+    }
+    let session = match read_session(alloc, text) {
         Ok(session) => session,
         Err(_) => return Err("no session".into()),
     };
@@ -127,10 +92,17 @@ fn serve_worked(alloc: Global, failing: u32) -> Result<Served, Fail> {
     Ok(serve(alloc, session, failing).map_err(|_| "memory")?)
 }
 
-/// How the request ended.
-fn outcome(trace: &Trace) -> Option<Outcome> {
-    match trace.events().last() {
-        Some(Event::Ended { outcome }) => Some(*outcome),
+/// How the request ended, and what of its links had failed right before, if anything had.
+fn end_of(trace: &Trace) -> Option<(Failure, Outcome)> {
+    let events = trace.events();
+    let failure = match events.get(events.len().checked_sub(3)?) {
+        Some(Event::DialFailed { link, count: 1 }) => Failure::Dial(*link),
+        Some(Event::WriteFailed { link, count: 1 }) => Failure::Write(*link),
+        Some(Event::ReadFailed { link, count: 1 }) => Failure::Read(*link),
+        _ => Failure::Nothing,
+    };
+    match events.last() {
+        Some(Event::Ended { outcome }) => Some((failure, *outcome)),
         _ => None,
     }
 }
@@ -145,43 +117,77 @@ fn is_entry(entry: Option<&Entry>, wanted: Option<&(Call, BookReply)>) -> bool {
     }
 }
 
-/// Whether the entries are the first calls of the worked session, so many, and the request's end.
-fn are_first(entries: &[Entry], many: usize) -> bool {
+/// Whether the entries are the first of these calls, so many, and the last one.
+fn are_first(entries: &[Entry], calls: &[(Call, BookReply)], many: usize) -> bool {
     for k in 0..many {
-        if !is_entry(entries.get(k), CALLS.get(k)) {
+        if !is_entry(entries.get(k), calls.get(k)) {
             return false;
         }
     }
-    entries.len().checked_sub(many) == Some(1) && is_entry(entries.last(), CALLS.last())
+    entries.len().checked_sub(many) == Some(1) && is_entry(entries.last(), calls.last())
 }
 
-/// Whether the request ends so where this call of its links fails, behind so many calls on the
-/// book.
-fn ends_by(alloc: Global, failing: u32, many: usize, wanted: Outcome) -> Result<bool, Fail> {
-    let Served { trace, journal } = serve_worked(alloc, failing)?;
-    Ok(outcome(&trace) == Some(wanted) && are_first(journal.entries(), many))
+/// Whether the request of a session with these calls on the book fails so at one call of its
+/// links, behind so many of them, and is ended then.
+fn is_cut(served: &Served, calls: &[(Call, BookReply)], many: usize, failure: Failure) -> bool {
+    end_of(&served.trace) == Some((failure, Outcome::LinkFailed(1)))
+        && are_first(served.journal.entries(), calls, many)
+}
+
+/// Whether nothing of the request failed, and it made all of these calls.
+fn is_whole(served: &Served, calls: &[(Call, BookReply)]) -> bool {
+    end_of(&served.trace) == Some((Failure::Nothing, Outcome::Answered(200)))
+        && are_first(
+            served.journal.entries(),
+            calls,
+            calls.len().saturating_sub(1),
+        )
 }
 
 #[test]
-fn the_first_link_fails(rt: HostRuntime) -> Result<(), Fail> {
-    for failing in 1..4 {
-        let is_cut = ends_by(rt.alloc(), failing, 2, Outcome::LinkFailed(1))?;
-        assert!(rt; is_cut, "at link call {failing}");
+fn each_link_call_fails(rt: HostRuntime) -> Result<(), Fail> {
+    for (failing, many, failure) in [
+        (1, 2, Failure::Dial(1)),
+        (2, 2, Failure::Write(1)),
+        (3, 2, Failure::Read(1)),
+        (4, 4, Failure::Dial(2)),
+        (5, 4, Failure::Write(2)),
+        (6, 4, Failure::Read(2)),
+    ] {
+        let served = serve_text(rt.alloc(), SESSION, failing)?;
+        assert!(rt;
+            is_cut(&served, &CALLS, many, failure),
+            "at link call {failing}"
+        );
     }
     Ok(())
 }
 
 #[test]
-fn the_second_link_fails(rt: HostRuntime) -> Result<(), Fail> {
-    for failing in 4..7 {
-        let is_cut = ends_by(rt.alloc(), failing, 4, Outcome::LinkFailed(1))?;
-        assert!(rt; is_cut, "at link call {failing}");
+fn each_link_call_before_a_proxy_fails(rt: HostRuntime) -> Result<(), Fail> {
+    for (failing, many, failure) in [
+        (1, 3, Failure::Dial(1)),
+        (2, 3, Failure::Write(1)),
+        (3, 3, Failure::Read(1)),
+        (4, 5, Failure::Dial(2)),
+        (5, 5, Failure::Write(2)),
+        (6, 5, Failure::Read(2)),
+        (7, 7, Failure::Dial(3)),
+        (8, 7, Failure::Write(3)),
+        (9, 7, Failure::Read(3)),
+    ] {
+        let served = serve_text(rt.alloc(), PROXIED, failing)?;
+        assert!(rt;
+            is_cut(&served, &PROXIED_CALLS, many, failure),
+            "at link call {failing}"
+        );
     }
     Ok(())
 }
 
 #[test]
-fn no_seventh_call_is_made(rt: HostRuntime) -> Result<(), Fail> {
-    assert!(rt; ends_by(rt.alloc(), 7, 5, Outcome::Answered(200))?);
+fn no_further_link_call_is_made(rt: HostRuntime) -> Result<(), Fail> {
+    assert!(rt; is_whole(&serve_text(rt.alloc(), SESSION, 7)?, &CALLS));
+    assert!(rt; is_whole(&serve_text(rt.alloc(), PROXIED, 10)?, &PROXIED_CALLS));
     Ok(())
 }
