@@ -7,6 +7,7 @@ mod told;
 use auth_cli::{Gears, Status, StdSink, StdSource, Word, authfetch};
 use auth_text::{Bytes, Items, NoMemory};
 use link_trait::{NoTokens, RecordedDialer};
+use std::io::ErrorKind;
 use std::process::ExitCode;
 use std::rt::Env;
 use std::{env, io};
@@ -19,10 +20,13 @@ const SEED: [u8; 32] = [0; 32];
 fn words(rt: &(impl Env + AllocGlobal)) -> Result<Items<Word>, NoMemory> {
     let alloc = rt.alloc();
     let mut words = Items::new(alloc);
-    if let Ok(args) = env::args(rt) {
-        for arg in args.skip(1) {
+    match env::args(rt) {
+        Ok(args) => for arg in args.skip(1) {
             words.push(Bytes::from_slice(alloc, arg.as_bytes())?)?;
-        }
+        },
+        Err(error) => if error.kind() == ErrorKind::OutOfMemory {
+            return Err(NoMemory);
+        },
     }
     Ok(words)
 }
