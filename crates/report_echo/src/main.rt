@@ -7,7 +7,7 @@
 mod echo;
 
 use crate::echo::{Outcome, echo_all};
-use std::io;
+use std::io::{self, ErrorKind};
 use std::process::ExitCode;
 
 /// The exit status.
@@ -34,6 +34,10 @@ fn main(rt: HostRuntime) -> ExitCode {
             let _ = tell(&rt, outcome);
             ExitCode::from(number(outcome))
         }
-        Err(_) => ExitCode::from(4),
+        Err(error) => if error.kind() == ErrorKind::OutOfMemory {
+            ExitCode::from(number(Outcome::NoMemory))
+        } else {
+            ExitCode::from(4)
+        },
     }
 }
