@@ -1,6 +1,6 @@
 -- What one read more does to a reading.
-use Rattle.std.proofs.Common.{◌≡◌, ◌∙◌, inl, inr, ℕ, ◌+◌, ◌≤◌, Bool, true, false, List, [], ◌∷◌, ◌++◌, length, take, drop, Option, Some, None, Result, Ok, refl, sym, subst, ap, append_assoc, arith}
-use Rattle.std.specs.Prelude.{IfSome}
+use Rattle.std.proofs.Common.{◌≡◌, ◌∙◌, inl, inr, ℕ, ◌+◌, ◌≤◌, Bool, true, false, List, [], ◌∷◌, ◌++◌, length, take, drop, Option, Some, None, Result, Ok, Err, refl, sym, subst, ap, append_assoc, arith}
+use Rattle.std.specs.Prelude.{IfSome, min}
 use Rattle.std.specs.List.{list_all}
 use Rattle.std.proofs.lemmas.List.{append-nil, length-append, length-take-le, take-append-drop, drop-drop, take_all}
 use Rattle.std.proofs.lemmas.List.Folds.{list_all-append, list_any-append}
@@ -16,10 +16,10 @@ use Rattle.link_trait.specs.Told.{grown}
 use Rattle.link_trait.specs.Links.{Stream, heard_in, heard_on, has_ended, read_on, GivesFromStream}
 use Rattle.link_trait.proofs.LinkLemmas.{same_self}
 use Rattle.wire_head.specs.declared.reader.At.{At}
-use Rattle.wire_head.specs.declared.reader.At.TheVariants.{Whole as WholeAt}
+use Rattle.wire_head.specs.declared.reader.At.TheVariants.{More as MoreAt, Whole as WholeAt, Fault as FaultAt}
 use Rattle.wire_head.specs.declared.reply.Reply.{Reply}
 use Rattle.wire_head.specs.declared.reply.WireFault.{WireFault}
-use Rattle.wire_head.specs.Feeding.{Text, IsFed, IsAnswerAt}
+use Rattle.wire_head.specs.Feeding.{Reading, IsFed, IsAnswerAt, IsMoreAt}
 use Rattle.wire_head.specs.Replies.{reply}
 use Rattle.wire_head.proofs.OpenTexts.{undecided_short}
 use Rattle.wire_head.proofs.WithinLemmas.{ends_at_end}
@@ -129,7 +129,7 @@ shown_at_last link method text false (Failed count) is open_ shown = absurd show
 shown_at_last link method text false NoMemory is open_ shown = absurd shown
 
 -- one read more, which decides
-decided : (link : LinkState) (method : Method) (streams : Option (LinkName → List ℕ)) (old mid new : Option (List Traffic)) (least : ℕ) (gone : Bool) (reader : Text) (event : Traffic)
+decided : (link : LinkState) (method : Method) (streams : Option (LinkName → List ℕ)) (old mid new : Option (List Traffic)) (least : ℕ) (gone : Bool) (reader : Reading) (event : Traffic)
     (read : Stream) (end : ReadEnd) (left : List ℕ) → (u : IsUndecided link method streams old mid least gone reader) → new ≡ grown mid (event ∷ []) → is_read_of link.name event ≡ true
     → read_on link.name (u.pieces ++ event ∷ []) ≡ read → Shows link method (behind link read) end left → IsOfStream streams old link.name read → IsOver link method streams old new end left
 decided link method streams old mid new least gone reader event read end left u grew one is shows stream = (
@@ -148,7 +148,7 @@ decided link method streams old mid new least gone reader event read end left u 
 )
 
 -- one read more, which gives nothing
-stopped : (link : LinkState) (method : Method) (streams : Option (LinkName → List ℕ)) (old mid new : Option (List Traffic)) (least : ℕ) (gone : Bool) (reader : Text) (end : ReadEnd)
+stopped : (link : LinkState) (method : Method) (streams : Option (LinkName → List ℕ)) (old mid new : Option (List Traffic)) (least : ℕ) (gone : Bool) (reader : Reading) (end : ReadEnd)
     → (u : IsUndecided link method streams old mid least gone reader) → new ≡ grown mid []
     → Shows link method (behind link (record { bytes = u.bytes; ended = false })) end [] → IsOver link method streams old new end []
 stopped link method streams old mid new least gone reader end u grew shows =
@@ -168,11 +168,11 @@ stopped link method streams old mid new least gone reader end u grew shows =
       refl,
     )
 
-pub failed_piece : (link : LinkState) (method : Method) (streams : Option (LinkName → List ℕ)) (old mid new : Option (List Traffic)) (least : ℕ) (gone : Bool) (reader : Text) (count : ℕ)
+pub failed_piece : (link : LinkState) (method : Method) (streams : Option (LinkName → List ℕ)) (old mid new : Option (List Traffic)) (least : ℕ) (gone : Bool) (reader : Reading) (count : ℕ)
     → IsUndecided link method streams old mid least gone reader → new ≡ grown mid [] → IsOver link method streams old new (Failed count) []
 failed_piece link method streams old mid new least gone reader count u grew = stopped link method streams old mid new least gone reader (Failed count) u grew (u.undecided, refl)
 
-pub spent_piece : (link : LinkState) (method : Method) (streams : Option (LinkName → List ℕ)) (old mid new : Option (List Traffic)) (least : ℕ) (gone : Bool) (reader : Text)
+pub spent_piece : (link : LinkState) (method : Method) (streams : Option (LinkName → List ℕ)) (old mid new : Option (List Traffic)) (least : ℕ) (gone : Bool) (reader : Reading)
     → IsUndecided link method streams old mid least gone reader → new ≡ grown mid [] → IsOver link method streams old new NoMemory []
 spent_piece link method streams old mid new least gone reader u grew = stopped link method streams old mid new least gone reader NoMemory u grew refl
 
@@ -183,7 +183,7 @@ some_byte link [] (b ∷ piece) some = grind (arith, nat_tests)
 some_byte link (b ∷ text) piece some = grind (arith, nat_tests)
 
 -- a piece that was fed
-pub fed_piece : (link : LinkState) (method : Method) (streams : Option (LinkName → List ℕ)) (old mid new : Option (List Traffic)) (least n : ℕ) (gone : Bool) (buf left : List ℕ) (reader later : Text) (answered : Option ReadEnd)
+pub fed_piece : (link : LinkState) (method : Method) (streams : Option (LinkName → List ℕ)) (old mid new : Option (List Traffic)) (least n : ℕ) (gone : Bool) (buf left : List ℕ) (reader later : Reading) (answered : Option ReadEnd)
     → IsUndecided link method streams old mid least gone reader → new ≡ grown mid (Received link.name (take n buf) ∷ []) → GivesFromStream streams mid (GotBytes n) link.name buf
     → 1 ≤ n → length buf ≡ n
     → ((m : Method) (text : List ℕ) → IsFed reader m text → IsFedAnswer (reply m (text ++ buf) false) (text ++ buf) answered left)
@@ -232,7 +232,7 @@ fed_piece link method streams old mid new least n gone buf left reader later ans
         (subst (λ text. Shows link method (record { bytes = text; ended = false }) end left) joined (shown_so_far link method ((link.kept ++ u.bytes) ++ buf) end left shown)) stream
 
 -- the link's end
-pub end_piece : (link : LinkState) (method : Method) (streams : Option (LinkName → List ℕ)) (old mid new : Option (List Traffic)) (least : ℕ) (gone : Bool) (buf : List ℕ) (reader : Text)
+pub end_piece : (link : LinkState) (method : Method) (streams : Option (LinkName → List ℕ)) (old mid new : Option (List Traffic)) (least : ℕ) (gone : Bool) (buf : List ℕ) (reader : Reading)
     → IsUndecided link method streams old mid least gone reader → new ≡ grown mid (Ended link.name ∷ []) → GivesFromStream streams mid GotEnd link.name buf
     → IsEnded link method streams old new gone reader
 end_piece link method streams old mid new least gone buf reader u grew gives = record {
@@ -269,12 +269,12 @@ unread_over link method streams told end left shows = (
   refl,
 )
 
-pub kept_shows : (link : LinkState) (method : Method) (streams : Option (LinkName → List ℕ)) (told : Option (List Traffic)) (reader : Text) (end : ReadEnd) (left : List ℕ)
+pub kept_shows : (link : LinkState) (method : Method) (streams : Option (LinkName → List ℕ)) (told : Option (List Traffic)) (reader : Reading) (end : ReadEnd) (left : List ℕ)
     → IsFed reader method [] → ((m : Method) (text : List ℕ) → IsFed reader m text → IsFedAnswer (reply m (text ++ link.kept) false) (text ++ link.kept) (Some end) left)
     → IsOver link method streams told told end left
 kept_shows link method streams told reader end left fed answer = unread_over link method streams told end left (shown_so_far link method link.kept end left (answer method [] fed))
 
-pub kept_open : (link : LinkState) (method : Method) (streams : Option (LinkName → List ℕ)) (told : Option (List Traffic)) (gone : Bool) (reader later : Text) (answered : Option ReadEnd) (left : List ℕ)
+pub kept_open : (link : LinkState) (method : Method) (streams : Option (LinkName → List ℕ)) (told : Option (List Traffic)) (gone : Bool) (reader later : Reading) (answered : Option ReadEnd) (left : List ℕ)
     → IsFed reader method [] → answered ≡ None → gone ≡ is_gone link (record { bytes = link.kept; ended = true })
     → ((m : Method) (text : List ℕ) → IsFed reader m text → IsFedAnswer (reply m (text ++ link.kept) false) (text ++ link.kept) answered left)
     → ((m : Method) (text : List ℕ) → IsFed reader m text → answered ≡ None → IsFed later m (text ++ link.kept))
@@ -325,15 +325,27 @@ pub over_same : (link other : LinkState) (method : Method) (streams : Option (Li
     → other ≡ link → IsOver other method streams old new end left → IsOver link method streams old new end left
 over_same link other method streams old new end left same over = subst (λ l. IsOver l method streams old new end left) same over
 
--- a whole reply ends with the bytes of the piece that are used
-pub whole_piece : (told : Result (Option (Reply × ℕ)) WireFault) (text piece : List ℕ) (used : ℕ) (at : At) (r : Reply) → at ≡ WholeAt r
-    → IsAnswerAt told (length text) (length piece) used at → (n : ℕ) × (told ≡ Ok (Some (r, n))) × (drop used piece ≡ drop n (text ++ piece))
-whole_piece told text piece used at r is answer =
+-- a whole reply ends with the bytes of the piece that are used, which are some of it
+pub whole_piece : (told : Result (Option (Reply × ℕ)) WireFault) (text piece : List ℕ) (used taken : ℕ) (at : At) (r : Reply) → at ≡ WholeAt r
+    → taken ≡ min used (length piece) → IsAnswerAt told (length text) (length piece) used at
+    → (n : ℕ) × (told ≡ Ok (Some (r, n))) × (drop taken piece ≡ drop n (text ++ piece))
+whole_piece told text piece used taken at r is cap answer =
     let whole = subst (λ (a : At). IsAnswerAt told (length text) (length piece) used a) is answer in
-    (length text + used, whole.0, sym (drop-append-add text piece used))
+    let within = whole.1 in
+    let same : taken ≡ used = omega (arith, cap, within) in
+    (length text + used, whole.0, ap (λ (n : ℕ). drop n piece) same ∙ sym (drop-append-add text piece used))
+
+-- a fault leaves nothing of the piece
+pub fault_piece : (told : Result (Option (Reply × ℕ)) WireFault) (before used : ℕ) (piece : List ℕ) (at : At) (fault : WireFault) → at ≡ FaultAt fault
+    → IsAnswerAt told before (length piece) used at → (told ≡ Err fault) × (drop (length piece) piece ≡ [])
+fault_piece told before used piece at fault is answer =
+    (subst (λ (a : At). IsAnswerAt told before (length piece) used a) is answer, drop-length piece)
+
+pub more_fed : (at : At) → at ≡ MoreAt → IsMoreAt at
+more_fed at is = subst IsMoreAt (sym is) tt
 
 -- so many reads decide
-pub all_read : (link : LinkState) (method : Method) (streams : Option (LinkName → List ℕ)) (old new : Option (List Traffic)) (gone : Bool) (reader : Text) (least : ℕ)
+pub all_read : (link : LinkState) (method : Method) (streams : Option (LinkName → List ℕ)) (old new : Option (List Traffic)) (gone : Bool) (reader : Reading) (least : ℕ)
     → 1114113 ≤ least → ¬ IsUndecided link method streams old new least gone reader
 all_read link method streams old new gone reader least many u =
     let short = undecided_short method (link.kept ++ u.bytes) u.undecided in

@@ -9,7 +9,7 @@ use Rattle.link_trait.specs.Told.{grown}
 use Rattle.link_trait.specs.Links.{Stream, same_link, heard_on, has_ended, read_on}
 use Rattle.wire_head.specs.declared.reply.Reply.{Reply}
 use Rattle.wire_head.specs.declared.reply.WireFault.{WireFault}
-use Rattle.wire_head.specs.Feeding.{Text, IsFed}
+use Rattle.wire_head.specs.Feeding.{Reading, IsFed}
 use Rattle.wire_head.specs.Replies.{reply}
 use Rattle.connection_binding.specs.LinkStates.{LinkState, new_link}
 use Rattle.connection_binding.specs.declared.ends.ReadEnd.{ReadEnd}
@@ -72,7 +72,7 @@ IsReplyRead link method streams old new end = IsNextRead (new_link link) method 
 -- WITHIN A READING
 
 -- the reader was fed what the link kept and all that was read, which is so many bytes at least and shows nothing yet; the flag tells whether the link is gone, if it ends here
-pub record IsUndecided (link : LinkState) (method : Method) (streams : Option (LinkName → List ℕ)) (old new : Option (List Traffic)) (least : ℕ) (gone : Bool) (reader : Text) : Type 0 where
+pub record IsUndecided (link : LinkState) (method : Method) (streams : Option (LinkName → List ℕ)) (old new : Option (List Traffic)) (least : ℕ) (gone : Bool) (reader : Reading) : Type 0 where
   pub pieces : List Traffic
   pub bytes : List ℕ
   pub grew : new ≡ grown old pieces
@@ -98,13 +98,13 @@ abbrev pub IsOver : LinkState → Method → Option (LinkName → List ℕ) → 
 IsOver link method streams old new end left = (read : IsNextRead link method streams old new end) × (left ≡ read.left)
 
 -- the link's end was read: what the text now shows is the answer
-pub record IsEnded (link : LinkState) (method : Method) (streams : Option (LinkName → List ℕ)) (old new : Option (List Traffic)) (gone : Bool) (reader : Text) : Type 0 where
+pub record IsEnded (link : LinkState) (method : Method) (streams : Option (LinkName → List ℕ)) (old new : Option (List Traffic)) (gone : Bool) (reader : Reading) : Type 0 where
   pub text : List ℕ
   pub fed : IsFed reader method text
   pub over : (end : ReadEnd) → IsShownAtEnd gone (reply method text true) end → IsOver link method streams old new end []
 
 -- what one read did to a reading, with this left
-abbrev pub IsPieceOf : LinkState → Method → Option (LinkName → List ℕ) → Option (List Traffic) → Option (List Traffic) → ℕ → Bool → Text → Piece → List ℕ → Type 0
+abbrev pub IsPieceOf : LinkState → Method → Option (LinkName → List ℕ) → Option (List Traffic) → Option (List Traffic) → ℕ → Bool → Reading → Piece → List ℕ → Type 0
 IsPieceOf link method streams old new least gone reader More left = IsUndecided link method streams old new (least + 1) false reader × (left ≡ [])
 IsPieceOf link method streams old new least gone reader AtEnd left = IsEnded link method streams old new gone reader × (left ≡ [])
 IsPieceOf link method streams old new least gone reader (Over end) left = IsOver link method streams old new end left

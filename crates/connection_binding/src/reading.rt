@@ -53,7 +53,7 @@ fn answered(reader: &mut ReplyReader, piece: &[u8]) -> (Option<ReadEnd>, usize)
     let Fed { used, at } = reader.feed(piece);
     match at {
         At::More => (None, piece.len()),
-        At::Whole(reply) => (Some(ReadEnd::Whole(reply)), used),
+        At::Whole(reply) => (Some(ReadEnd::Whole(reply)), used.min(piece.len())),
         At::Fault(fault) => (Some(ReadEnd::Broken(fault)), piece.len()),
         At::NoMemory => (Some(ReadEnd::NoMemory), piece.len()),
     }

@@ -10,8 +10,8 @@ use Rattle.wire_head.specs.declared.reply.Reply.{Reply}
 use Rattle.wire_head.specs.declared.reply.WireFault.TheVariants.{HeadTooLong, BadFraming, BodyTooLong}
 use Rattle.wire_head.specs.declared.framing.Framing.{Framing}
 use Rattle.wire_head.specs.declared.framing.Framing.TheVariants.{Length, Chunked, ToEnd, Bad, TooLong}
-use Rattle.wire_head.specs.declared.plain.Progress.{Progress}
-use Rattle.wire_head.specs.declared.plain.Progress.TheVariants.{Open, Whole, Fault}
+use Rattle.wire_head.specs.declared.progress.Progress.{Progress}
+use Rattle.wire_head.specs.declared.progress.Progress.TheVariants.{Open, Whole, Fault}
 use Rattle.wire_head.specs.Lines.{head_len}
 use Rattle.wire_head.specs.ChunkedBodies.{chunks}
 use Rattle.wire_head.specs.HeaderFields.{values_of}

@@ -1,6 +1,7 @@
 -- The first head of a text that goes on.
-use Rattle.std.proofs.Common.{◌≡◌, ℕ, ◌+◌, ◌<◌, ◌≤◌, Bool, true, false, cond, ◌==◌, List, [], ◌∷◌, ◌++◌, length, ◌⊎◌, inl, inr, Option, Some, None, refl, sym, ap, ◌∙◌, arith}
+use Rattle.std.proofs.Common.{◌≡◌, ℕ, suc, zero, ◌+◌, ◌-◌, ◌<◌, ◌≤◌, Bool, true, false, cond, ◌==◌, List, [], ◌∷◌, ◌++◌, length, take, drop, ◌⊎◌, inl, inr, Option, Some, None, refl, sym, ap, ◌∙◌, arith}
 use Rattle.std.specs.Option.{option_map}
+use Rattle.std.proofs.lemmas.List.{length-take-le, take-append-drop}
 use Rattle.wire_head.specs.Lines.{behind_return, blank_len, end_len, or_later, head_len}
 
 none_some : {P : Type 0} (n : ℕ) → ◌≡◌ {A = Option ℕ} None (Some n) → P
@@ -139,3 +140,42 @@ head_local (b ∷ text) more n h small =
           ∙ ap (or_later None) rest
           ∙ ap (λ (k : ℕ). Some k) (sym e)
     ]
+
+-- A HEAD'S END BEHIND A FRONT THAT HAS NONE
+
+none_parts : (a later : Option ℕ) → or_later a later ≡ None → (a ≡ None) × (later ≡ None)
+none_parts (Some n) later is = cc is
+none_parts None None is = (refl, refl)
+none_parts None (Some m) is = cc is
+
+from_start : (x : Option ℕ) → x ≡ option_map (λ n. 0 + n) x
+from_start None = refl
+from_start (Some n) = ap (λ (k : ℕ). Some k) (omega arith)
+
+one_later : (i : ℕ) (x : Option ℕ) → option_map (λ n. 1 + n) (option_map (λ n. i + n) x) ≡ option_map (λ n. suc i + n) x
+one_later i None = refl
+one_later i (Some n) = ap (λ (k : ℕ). Some k) (omega arith)
+
+-- where no blank line ends within so many bytes, one is looked for from two bytes before on
+pub head_from : (i before : ℕ) (text : List ℕ) → i ≤ before - 2 → before ≤ length text → head_len (take before text) ≡ None
+    → head_len text ≡ option_map (λ n. i + n) (head_len (drop i text))
+head_from zero before text few within none = from_start (head_len text)
+head_from (suc i) zero text few within none = absurd (omega (arith, few))
+head_from (suc i) (suc p) [] few within none = absurd (omega (arith, within))
+head_from (suc i) (suc p) (b ∷ text) few within none =
+    let parts = none_parts (end_len (b ∷ take p text)) (head_len (take p text)) none in
+    let len = length-take-le p text (omega (arith, within)) in
+    let more : 1 < length (take p text) = omega (arith, few, len) in
+    let no_end : end_len (b ∷ text) ≡ None =
+    ap (λ (xs : List ℕ). end_len (b ∷ xs)) (sym (take-append-drop p text)) ∙ end_same b (take p text) (drop p text) more ∙ parts.0 in
+    ap (λ (x : Option ℕ). or_later x (head_len text)) no_end
+    ∙ ap (or_later None) (head_from i p text (omega (arith, few)) (omega (arith, within)) parts.1)
+    ∙ one_later i (head_len (drop i text))
+
+pub found_from : (from before : ℕ) (text rest : List ℕ) (x : Option ℕ) → from ≡ before - 2 → before ≤ length text → head_len (take before text) ≡ None
+    → rest ≡ drop from text → x ≡ head_len rest → option_map (λ n. from + n) x ≡ head_len text
+found_from from before text rest x is_from within none is_rest is =
+    ap (option_map (λ n. from + n)) (is ∙ ap head_len is_rest) ∙ sym (head_from from before text (omega (arith, is_from)) within none)
+
+pub some_within : (text : List ℕ) (n : ℕ) → Some n ≡ head_len text → (0 < n) × (n ≤ length text)
+some_within text n is = let w = head_within text n (sym is) in (omega (arith, w.0), w.1)

@@ -1,11 +1,15 @@
+pub mod BodySteps
+pub mod CarriedSizes
 pub mod ChunkLemmas
-pub mod ChunkPlaces
+pub mod ChunkRuns
 pub mod CutLemmas
+pub mod FeedLemmas
 pub mod FinalCodes
 pub mod FinalHeadLemmas
 pub mod HeadBackLemmas
 pub mod HeadLemmas
 pub mod HeadLengthLemmas
+pub mod HeadSteps
 pub mod LineLemmas
 pub mod MoveLemmas
 pub mod NumberLemmas
@@ -13,7 +17,6 @@ pub mod OpenTexts
 pub mod PlaceLemmas
 pub mod ProgressLemmas
 pub mod ReadLemmas
-pub mod ReadingStates
 pub mod RunLemmas
 pub mod StateLemmas
 pub mod StatusLineLemmas

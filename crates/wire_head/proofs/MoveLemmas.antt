@@ -1,5 +1,5 @@
 -- One byte on from each place.
-use Rattle.std.proofs.Common.{◌≡◌, ℕ, suc, zero, ◌+◌, ◌-◌, ◌*◌, ◌<◌, ◌≤◌, Bool, true, false, cond, ◌==◌, ◌||◌, List, [], ◌∷◌, take, drop, Option, Some, None, refl, sym, ap, ◌∙◌, arith, zero-add}
+use Rattle.std.proofs.Common.{◌≡◌, ℕ, suc, zero, ◌+◌, ◌-◌, ◌*◌, ◌<◌, ◌≤◌, Bool, true, false, cond, ◌==◌, ◌||◌, List, [], ◌∷◌, length, take, drop, Option, Some, None, refl, sym, ap, ◌∙◌, arith, zero-add}
 use Rattle.std.specs.Prelude.{nat_lt}
 use Rattle.std.specs.List.{prefix_len, position_from}
 use Rattle.std.specs.Option.{option_map}
@@ -11,9 +11,12 @@ use Rattle.wire_head.specs.declared.lines.Front.TheVariants.{Whole, Wrong, Part}
 use Rattle.wire_head.specs.declared.chunked_body.ChunkedBody.TheVariants.{Ends, Wrong as BadBody}
 use Rattle.wire_head.specs.Lines.{blank_len, or_later, head_len, line_end, after_return, behind_return as blank_behind}
 use Rattle.wire_head.specs.ChunkedBodies.{behind, up_to, size_end, size_line_of, no_digit, first_of, trailer_len, longer, chunks}
-use Rattle.wire_head.proofs.ChunkLemmas.{longer_longer}
+use Rattle.wire_head.proofs.ChunkLemmas.{longer_longer, longer_zero}
 use Rattle.wire_head.proofs.PlaceLemmas.{fresh_is}
-use Rattle.wire_head.proofs.ChunkPlaces.{Place, Fresh, Digits, Extension, SizeReturn, Bytes, BytesReturn, Trailer, TrailerReturn, TrailerLine, lf_only, trailer_then, end_then, sized, line_then, digits_line, digits_line_of, behind_return, rest, Goes, Bad, Done, sized_move, size_move, end_move, bytes_move, move, moved, IsPlace}
+use Rattle.wire_head.specs.declared.chunk_place.Place.{Place}
+use Rattle.wire_head.specs.declared.chunk_place.Place.TheVariants.{Fresh, Digits, Extension, SizeReturn, Bytes, BytesReturn, Trailer, TrailerReturn, TrailerLine}
+use Rattle.wire_head.specs.declared.chunk_place.Move.TheVariants.{Goes, Bad, Done}
+use Rattle.wire_head.specs.ChunkPlaces.{lf_only, trailer_then, end_then, sized, line_then, digits_line, digits_line_of, behind_return, rest, sized_move, size_move, end_move, bytes_move, move, moved, IsPlace}
 
 line_cons : (f : Front) (v b : ℕ) (t : List ℕ) → line_then (behind 1 f) v (b ∷ t) ≡ longer 1 0 (line_then f v t)
 line_cons Part v b t = refl
@@ -220,7 +223,7 @@ fresh_on false b t = refl
 
 pub byte_step : (place : Place) (b : ℕ) (text : List ℕ) → IsPlace place → rest place (b ∷ text) ≡ moved (move place b) text
 byte_step Fresh b t is = fresh_is b t ∙ fresh_on (is_ascii_hexdigit b) b t
-byte_step (Digits count v) b t is = digits_step_on (is_ascii_hexdigit b) (nat_lt count 8) count v b t refl is
+byte_step (Digits count v) b t is = digits_step_on (is_ascii_hexdigit b) (nat_lt count 8) count v b t refl is.0
 byte_step (Extension v) b t is = extension_step (b == 10) v b t
 byte_step (SizeReturn v) b t is = size_return_step (b == 10) v b t
 byte_step (Bytes left) b t is = bytes_step left b t
@@ -228,3 +231,18 @@ byte_step BytesReturn b t is = bytes_return_step (b == 10) b t
 byte_step Trailer b t is = trailer_step (b == 10) (b == 13) t
 byte_step TrailerReturn b t is = trailer_return_step (b == 10) t
 byte_step TrailerLine b t is = trailer_line_step (b == 10) t
+
+-- a run of data is one step
+pub data_skip : (n left : ℕ) (text : List ℕ) → n ≤ left → n ≤ length text → rest (Bytes left) text ≡ longer n 0 (rest (Bytes (left - n)) (drop n text))
+data_skip zero left text few within =
+    let same : left ≡ left - 0 = omega arith in
+    sym (longer_zero (rest (Bytes left) text)) ∙ ap (λ (k : ℕ). longer 0 0 (rest (Bytes k) text)) same
+data_skip (suc n) left [] few within = absurd (omega (arith, within))
+data_skip (suc n) zero (b ∷ text) few within = absurd (omega (arith, few))
+data_skip (suc n) (suc left) (b ∷ text) few within =
+    let same : suc left - suc n ≡ left - n = omega arith in
+    end_cons left b (line_end (drop left text)) text
+    ∙ ap (longer 1 0) (data_skip n left text (omega (arith, few)) (omega (arith, within)))
+    ∙ longer_longer 1 0 n 0 (rest (Bytes (left - n)) (drop n text))
+    ∙ ap (λ (k : ℕ). longer (1 + n) 0 (rest (Bytes k) (drop n text))) (sym same)
+    ∙ ap (λ (k : ℕ). longer k 0 (rest (Bytes (suc left - suc n)) (drop n text))) (omega arith)

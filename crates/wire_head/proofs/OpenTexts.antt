@@ -8,8 +8,8 @@ use Rattle.wire_head.specs.declared.chunked_body.ChunkedBody.{ChunkedBody}
 use Rattle.wire_head.specs.declared.chunked_body.ChunkedBody.TheVariants.{Ends, Wrong as BadBody, Part as NoBody}
 use Rattle.wire_head.specs.declared.framing.Framing.{Framing}
 use Rattle.wire_head.specs.declared.framing.Framing.TheVariants.{Length, Chunked, ToEnd, Bad as BadFrame, TooLong}
-use Rattle.wire_head.specs.declared.plain.Progress.{Progress}
-use Rattle.wire_head.specs.declared.plain.Progress.TheVariants.{Open, Whole, Fault}
+use Rattle.wire_head.specs.declared.progress.Progress.{Progress}
+use Rattle.wire_head.specs.declared.progress.Progress.TheVariants.{Open, Whole, Fault}
 use Rattle.wire_head.specs.declared.reply.Reply.{Reply}
 use Rattle.wire_head.specs.declared.reply.WireFault.TheVariants.{BadFraming, BodyTooLong, HeadTooLong}
 use Rattle.wire_head.specs.declared.response_head.ReplyHead.{ReplyHead}
@@ -29,7 +29,7 @@ either P true a b pa pb = pa
 either P false a b pa pb = pb
 
 -- a length that is said is within the limit
-abbrev IsFew : Framing → Type 0
+abbrev pub IsFew : Framing → Type 0
 IsFew (Length n) = n ≤ 1048576
 IsFew Chunked = Unit {0}
 IsFew ToEnd = Unit {0}
@@ -50,7 +50,7 @@ few_fields codings lengths =
     (either IsFew (length lengths == 0) ToEnd (by_lengths (elements lengths)) tt (few_lengths (elements lengths)))
     (either IsFew (ends_chunked (elements codings)) Chunked ToEnd tt tt)
 
-few_framing : (method : Method) (h : ReplyHead) → IsFew (framing method h)
+pub few_framing : (method : Method) (h : ReplyHead) → IsFew (framing method h)
 few_framing method h =
     either IsFew (is_bodiless method h.code) (Length 0) (by_fields (values_of (codes "Transfer-Encoding") h.fields) (values_of (codes "Content-Length") h.fields))
     (omega arith) (few_fields (values_of (codes "Transfer-Encoding") h.fields) (values_of (codes "Content-Length") h.fields))
@@ -82,7 +82,7 @@ body_short ToEnd h at text said few = open_body at (length text) (Some (reply_of
 body_short Chunked h at text said few = chunks_short (chunks 0 text) h at (length text) few
 
 -- a head that is not too long
-within_limit : (at : ℕ) (front : List ℕ) → is_too_long at front ≡ false → at + length front ≤ 65536
+pub within_limit : (at : ℕ) (front : List ℕ) → is_too_long at front ≡ false → at + length front ≤ 65536
 within_limit at front is = grind (arith, nat_tests)
 
 head_short : (method : Method) (at n : ℕ) (text : List ℕ) (h : Option ReplyHead) (later : Progress) → n ≤ length text → at + n ≤ 65536

@@ -12,7 +12,7 @@ use Rattle.wire_head.specs.declared.chunked_body.ChunkedBody.TheVariants.{Wrong 
 use Rattle.wire_head.specs.Lines.{line_end}
 use Rattle.wire_head.specs.ChunkedBodies.{behind, size_end, size_line, size_line_of, size_of, no_digit, trailer_len, longer, chunk_of, data_chunk, last_chunk, chunk_rest, first_chunk, chunks}
 use Rattle.wire_head.proofs.ChunkLemmas.{longer_zero, longer_longer}
-use Rattle.wire_head.proofs.ChunkPlaces.{trailer_then, end_then, sized, line_then}
+use Rattle.wire_head.specs.ChunkPlaces.{trailer_then, end_then, sized, line_then}
 
 -- chunks behind bytes of an earlier one, however few bytes there are
 skip : (k : ℕ) (text : List ℕ) → chunks k text ≡ longer k 0 (chunks 0 (drop k text))

@@ -2,8 +2,8 @@
 use Rattle.std.proofs.Common.{◌≡◌, ℕ, suc, zero, ◌+◌, ◌-◌, ◌<◌, ◌≤◌, Bool, false, cond, List, [], ◌∷◌, length, drop, Option, Some, None, sym, ap, ◌∙◌, arith, add-zero}
 use Rattle.std.proofs.lemmas.Bool.Decides.{nat_tests}
 use Rattle.spaces.specs.declared.roster.Method.{Method}
-use Rattle.wire_head.specs.declared.plain.Progress.{Progress}
-use Rattle.wire_head.specs.declared.plain.Progress.TheVariants.{Open, Fault}
+use Rattle.wire_head.specs.declared.progress.Progress.{Progress}
+use Rattle.wire_head.specs.declared.progress.Progress.TheVariants.{Open, Fault}
 use Rattle.wire_head.specs.declared.reply.WireFault.TheVariants.{HeadTooLong}
 use Rattle.wire_head.specs.Lines.{head_len}
 use Rattle.wire_head.specs.Replies.{heads, first_head, front_len, is_too_long}

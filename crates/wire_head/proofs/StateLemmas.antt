@@ -8,12 +8,13 @@ use Rattle.std.proofs.lemmas.List.Sums.{sum_by-append}
 use Rattle.wire_head.specs.declared.chunked_body.ChunkedBody.{ChunkedBody}
 use Rattle.wire_head.specs.declared.chunked_body.ChunkedBody.TheVariants.{Ends, Wrong as BadBody, Part as NoBody}
 use Rattle.wire_head.specs.declared.response_head.ReplyHead.{ReplyHead}
+use Rattle.wire_head.specs.declared.reply.Reply.{Reply}
 use Rattle.spaces.specs.declared.roster.Method.{Method}
 use Rattle.wire_head.specs.declared.framing.Framing.{Framing}
 use Rattle.wire_head.specs.declared.framing.Framing.TheVariants.{Length, Chunked, ToEnd, Bad as BadFrame, TooLong}
 use Rattle.wire_head.specs.declared.reply.WireFault.TheVariants.{BadHead, HeadTooLong, BadFraming, BodyTooLong}
-use Rattle.wire_head.specs.declared.plain.Progress.{Progress}
-use Rattle.wire_head.specs.declared.plain.Progress.TheVariants.{Open, Whole, Fault}
+use Rattle.wire_head.specs.declared.progress.Progress.{Progress}
+use Rattle.wire_head.specs.declared.progress.Progress.TheVariants.{Open, Whole, Fault}
 use Rattle.wire_head.specs.Lines.{head_len}
 use Rattle.wire_head.specs.ChunkedBodies.{longer, chunks}
 use Rattle.wire_head.specs.ResponseHeads.{reply_head}
@@ -22,10 +23,22 @@ use Rattle.wire_head.proofs.ChunkLemmas.{longer_zero, longer_longer}
 use Rattle.wire_head.proofs.ProgressLemmas.{done_step, interim_step}
 use Rattle.wire_head.proofs.HeadLengthLemmas.{head_more, head_within, head_local}
 use Rattle.wire_head.proofs.MoveLemmas.{byte_step}
-use Rattle.wire_head.proofs.ChunkPlaces.{Place, rest, Move, Goes, Bad, Done, move, moved, IsPlace}
-use Rattle.wire_head.proofs.ReadingStates.{State, InHead, InLength, InOpen, InChunks, shown, IsState, On, Over, went, begun, by_parsed, by_blank, chunk_next, next}
+use Rattle.wire_head.specs.declared.chunk_place.Place.{Place}
+use Rattle.wire_head.specs.declared.chunk_place.Move.{Move}
+use Rattle.wire_head.specs.declared.chunk_place.Move.TheVariants.{Goes, Bad, Done}
+use Rattle.wire_head.specs.ChunkPlaces.{rest, move, moved, IsPlace}
+use Rattle.wire_head.specs.declared.state.State.{State}
+use Rattle.wire_head.specs.declared.state.State.TheVariants.{InHead, InLength, InOpen, InChunks}
+use Rattle.wire_head.specs.declared.state.Next.TheVariants.{On, Over}
+use Rattle.wire_head.specs.ReadingStates.{chunks_show, shown, IsState, went, begun, by_parsed, by_blank, chunk_next, next}
 
 -- bodies
+
+-- a chunked body shows what the reply of its head says of it
+chunks_by_head : (b : ChunkedBody) (h : ReplyHead) (at len : ℕ) → by_chunks b h at len ≡ chunks_show b (reply_of Chunked h 0) at len
+chunks_by_head (Ends n bytes) h at len = refl
+chunks_by_head (BadBody k) h at len = refl
+chunks_by_head NoBody h at len = refl
 
 pub begun_is : (method : Method) (h : ReplyHead) (at : ℕ) (f : Framing) (t : List ℕ) → body f h at t ≡ went method (begun h at f) t
 begun_is method h at BadFrame t = refl
@@ -33,7 +46,7 @@ begun_is method h at TooLong t = refl
 begun_is method h at (Length n) t = by_test (n == 0) refl
   where
     by_test : (x : Bool) → (n == 0) ≡ x → cond (nat_le n (length t)) (Whole (reply_of (Length n) h n) (at + n)) (Open None)
-        ≡ went method (cond x (Over (Whole (reply_of (Length n) h n) (at + n))) (On (InLength h n at n))) t
+        ≡ went method (cond x (Over (Whole (reply_of (Length n) h n) (at + n))) (On (InLength (reply_of (Length n) h n) at n))) t
     by_test true is =
         let all : nat_le n (length t) ≡ true = grind (arith, nat_tests) in
         ap (λ (y : Bool). cond y (Whole (reply_of (Length n) h n) (at + n)) (Open None)) all
@@ -41,81 +54,81 @@ begun_is method h at (Length n) t = by_test (n == 0) refl
 begun_is method h at ToEnd t =
     ap (λ (n : ℕ). cond (nat_lt body_limit n) (Fault BodyTooLong) (Open (Some (reply_of ToEnd h n)))) (sym (zero-add (length t)))
 begun_is method h at Chunked t =
-    ap (λ (b : ChunkedBody). by_chunks b h at (length t)) (sym (longer_zero (chunks 0 t)))
-    ∙ ap (by_chunks (longer 0 0 (chunks 0 t)) h at) (sym (zero-add (length t)))
+    chunks_by_head (chunks 0 t) h at (length t)
+    ∙ ap (λ (b : ChunkedBody). chunks_show b (reply_of Chunked h 0) at (length t)) (sym (longer_zero (chunks 0 t)))
+    ∙ ap (chunks_show (longer 0 0 (chunks 0 t)) (reply_of Chunked h 0) at) (sym (zero-add (length t)))
 
-length_step : (method : Method) (h : ReplyHead) (n at left b : ℕ) (t : List ℕ) → 0 < left
-    → shown method (InLength h n at left) (b ∷ t) ≡ went method (next method (InLength h n at left) b) t
-length_step method h n at left b t some = by_test (left == 1) refl
+length_step : (method : Method) (r : Reply) (at left b : ℕ) (t : List ℕ) → 0 < left
+    → shown method (InLength r at left) (b ∷ t) ≡ went method (next method (InLength r at left) b) t
+length_step method r at left b t some = by_test (left == 1) refl
   where
     by_test : (x : Bool) → (left == 1) ≡ x
-        → cond (nat_le left (length (b ∷ t))) (Whole (reply_of (Length n) h n) (at + left)) (Open None)
-        ≡ went method (cond x (Over (Whole (reply_of (Length n) h n) (at + 1))) (On (InLength h n (at + 1) (left - 1)))) t
+        → cond (nat_le left (length (b ∷ t))) (Whole r (at + left)) (Open None)
+        ≡ went method (cond x (Over (Whole r (at + 1))) (On (InLength r (at + 1) (left - 1)))) t
     by_test true is =
         let one : left ≡ 1 = grind (arith, nat_tests) in
         let all : nat_le left (length (b ∷ t)) ≡ true = grind (arith, nat_tests) in
-        ap (λ (y : Bool). cond y (Whole (reply_of (Length n) h n) (at + left)) (Open None)) all
-        ∙ ap (λ (k : ℕ). Whole (reply_of (Length n) h n) (at + k)) one
+        ap (λ (y : Bool). cond y (Whole r (at + left)) (Open None)) all
+        ∙ ap (λ (k : ℕ). Whole r (at + k)) one
     by_test false is =
         let same : nat_le left (length (b ∷ t)) ≡ nat_le (left - 1) (length t) = grind (arith, nat_tests) in
         let place : at + left ≡ at + 1 + (left - 1) = omega arith in
-        ap (λ (y : Bool). cond y (Whole (reply_of (Length n) h n) (at + left)) (Open None)) same
-        ∙ ap (λ (k : ℕ). cond (nat_le (left - 1) (length t)) (Whole (reply_of (Length n) h n) k) (Open None)) place
+        ap (λ (y : Bool). cond y (Whole r (at + left)) (Open None)) same
+        ∙ ap (λ (k : ℕ). cond (nat_le (left - 1) (length t)) (Whole r k) (Open None)) place
 
-open_step : (method : Method) (h : ReplyHead) (count b : ℕ) (t : List ℕ)
-    → shown method (InOpen h count) (b ∷ t) ≡ went method (next method (InOpen h count) b) t
-open_step method h count b t = by_test (nat_lt body_limit (count + 1)) refl
+open_step : (method : Method) (r : Reply) (count b : ℕ) (t : List ℕ)
+    → shown method (InOpen r count) (b ∷ t) ≡ went method (next method (InOpen r count) b) t
+open_step method r count b t = by_test (nat_lt body_limit (count + 1)) refl
   where
     by_test : (x : Bool) → nat_lt body_limit (count + 1) ≡ x
-        → cond (nat_lt body_limit (count + length (b ∷ t))) (Fault BodyTooLong) (Open (Some (reply_of ToEnd h (count + length (b ∷ t)))))
-        ≡ went method (cond x (Over (Fault BodyTooLong)) (On (InOpen h (count + 1)))) t
+        → shown method (InOpen r count) (b ∷ t) ≡ went method (cond x (Over (Fault BodyTooLong)) (On (InOpen r (count + 1)))) t
     by_test true is =
         let over : nat_lt body_limit (count + length (b ∷ t)) ≡ true = grind (arith, nat_tests) in
-        ap (λ (y : Bool). cond y (Fault BodyTooLong) (Open (Some (reply_of ToEnd h (count + length (b ∷ t)))))) over
+        ap (λ (y : Bool). cond y (Fault BodyTooLong) (Open (Some (record r { body = count + length (b ∷ t) })))) over
     by_test false is =
         let same : count + length (b ∷ t) ≡ count + 1 + length t = omega arith in
-        ap (λ (n : ℕ). cond (nat_lt body_limit n) (Fault BodyTooLong) (Open (Some (reply_of ToEnd h n)))) same
+        ap (λ (n : ℕ). cond (nat_lt body_limit n) (Fault BodyTooLong) (Open (Some (record r { body = n })))) same
 
-over_limit : (h : ReplyHead) (at count size len : ℕ) (b : ChunkedBody) → nat_lt body_limit count ≡ true
-    → by_chunks (longer count size b) h at (count + len) ≡ Fault BodyTooLong
-over_limit h at count size len (Ends n s) is =
+pub over_limit : (r : Reply) (at count size len : ℕ) (b : ChunkedBody) → nat_lt body_limit count ≡ true
+    → chunks_show (longer count size b) r at (count + len) ≡ Fault BodyTooLong
+over_limit r at count size len (Ends n s) is =
     let over : nat_lt body_limit (count + n) ≡ true = grind (arith, nat_tests) in
-    ap (λ (y : Bool). cond y (Fault BodyTooLong) (Whole (reply_of Chunked h (size + s)) (at + (count + n)))) over
-over_limit h at count size len (BadBody k) is =
+    ap (λ (y : Bool). cond y (Fault BodyTooLong) (Whole (record r { body = size + s }) (at + (count + n)))) over
+over_limit r at count size len (BadBody k) is =
     let over : nat_lt body_limit (count + k) ≡ true = grind (arith, nat_tests) in
     ap (λ (y : Bool). cond y (Fault BodyTooLong) (Fault BadFraming)) over
-over_limit h at count size len NoBody is =
+over_limit r at count size len NoBody is =
     let over : nat_lt body_limit (count + len) ≡ true = grind (arith, nat_tests) in
     ap (λ (y : Bool). cond y (Fault BodyTooLong) (Open None)) over
 
-chunk_move : (method : Method) (h : ReplyHead) (at count size : ℕ) (m : Move) (t : List ℕ) → count ≤ 1048576
-    → by_chunks (longer count size (moved m t)) h at (count + suc (length t)) ≡ went method (chunk_next h at count size m) t
-chunk_move method h at count size Bad t few =
+chunk_move : (method : Method) (r : Reply) (at count size : ℕ) (m : Move) (t : List ℕ) → count ≤ 1048576
+    → chunks_show (longer count size (moved m t)) r at (count + suc (length t)) ≡ went method (chunk_next r at count size m) t
+chunk_move method r at count size Bad t few =
     let within : nat_lt body_limit (count + 0) ≡ false = grind (arith, nat_tests) in
     ap (λ (y : Bool). cond y (Fault BodyTooLong) (Fault BadFraming)) within
-chunk_move method h at count size Done t few = by_test (nat_lt body_limit (count + 1))
+chunk_move method r at count size Done t few = by_test (nat_lt body_limit (count + 1))
   where
-    by_test : (x : Bool) → cond x (Fault BodyTooLong) (Whole (reply_of Chunked h (size + 0)) (at + (count + 1)))
-        ≡ went method (cond x (Over (Fault BodyTooLong)) (Over (Whole (reply_of Chunked h size) (at + (count + 1))))) t
+    by_test : (x : Bool) → cond x (Fault BodyTooLong) (Whole (record r { body = size + 0 }) (at + (count + 1)))
+        ≡ went method (cond x (Over (Fault BodyTooLong)) (Over (Whole (record r { body = size }) (at + (count + 1))))) t
     by_test true = refl
-    by_test false = ap (λ (s : ℕ). Whole (reply_of Chunked h s) (at + (count + 1))) (add-zero size)
-chunk_move method h at count size (Goes place more) t few =
+    by_test false = ap (λ (s : ℕ). Whole (record r { body = s }) (at + (count + 1))) (add-zero size)
+chunk_move method r at count size (Goes place more) t few =
     let same : count + suc (length t) ≡ count + 1 + length t = omega arith in
-    ap (λ (b : ChunkedBody). by_chunks b h at (count + suc (length t))) (longer_longer count size 1 more (rest place t))
-    ∙ ap (by_chunks (longer (count + 1) (size + more) (rest place t)) h at) same
+    ap (λ (b : ChunkedBody). chunks_show b r at (count + suc (length t))) (longer_longer count size 1 more (rest place t))
+    ∙ ap (chunks_show (longer (count + 1) (size + more) (rest place t)) r at) same
     ∙ by_test (nat_lt body_limit (count + 1)) refl
   where
     by_test : (x : Bool) → nat_lt body_limit (count + 1) ≡ x
-        → by_chunks (longer (count + 1) (size + more) (rest place t)) h at (count + 1 + length t)
-        ≡ went method (cond x (Over (Fault BodyTooLong)) (On (InChunks h at (count + 1) (size + more) place))) t
-    by_test true is = over_limit h at (count + 1) (size + more) (length t) (rest place t) is
+        → chunks_show (longer (count + 1) (size + more) (rest place t)) r at (count + 1 + length t)
+        ≡ went method (cond x (Over (Fault BodyTooLong)) (On (InChunks r at (count + 1) (size + more) place))) t
+    by_test true is = over_limit r at (count + 1) (size + more) (length t) (rest place t) is
     by_test false is = refl
 
-chunk_step : (method : Method) (h : ReplyHead) (at count size : ℕ) (place : Place) (b : ℕ) (t : List ℕ) → count ≤ 1048576 → IsPlace place
-    → shown method (InChunks h at count size place) (b ∷ t) ≡ went method (next method (InChunks h at count size place) b) t
-chunk_step method h at count size place b t few is =
-    ap (λ (x : ChunkedBody). by_chunks (longer count size x) h at (count + suc (length t))) (byte_step place b t is)
-    ∙ chunk_move method h at count size (move place b) t few
+pub chunk_step : (method : Method) (r : Reply) (at count size : ℕ) (place : Place) (b : ℕ) (t : List ℕ) → count ≤ 1048576 → IsPlace place
+    → shown method (InChunks r at count size place) (b ∷ t) ≡ went method (next method (InChunks r at count size place) b) t
+chunk_step method r at count size place b t few is =
+    ap (λ (x : ChunkedBody). chunks_show (longer count size x) r at (count + suc (length t))) (byte_step place b t is)
+    ∙ chunk_move method r at count size (move place b) t few
 
 -- heads
 
@@ -152,15 +165,15 @@ ends_behind front b more k none some = by_test (nat_lt (length front) k) refl
         let no : ◌≡◌ {A = Option ℕ} None (Some k) = sym none ∙ head_local front (b ∷ more) k (sym (ap head_len text) ∙ some) inside in
         cc no
 
-too_long_step : (method : Method) (at : ℕ) (front : List ℕ) (b : ℕ) (t : List ℕ) (then_ : Progress) → head_len front ≡ None
-    → is_too_long at (front ++ b ∷ []) ≡ true
-    → first_head method at ((front ++ b ∷ []) ++ t) then_ ≡ Fault HeadTooLong
-too_long_step method at front b t then_ none long =
-    let whole = (front ++ b ∷ []) ++ t in
+-- a text whose first head has no end before the front's: it is too long where the front is
+pub too_long_front : (method : Method) (at : ℕ) (front t : List ℕ) (then_ : Progress)
+    → ((k : ℕ) → head_len (front ++ t) ≡ Some k → length front ≤ k) → is_too_long at front ≡ true
+    → first_head method at (front ++ t) then_ ≡ Fault HeadTooLong
+too_long_front method at front t then_ behind long =
+    let whole = front ++ t in
     let len = front_len (head_len whole) whole in
-    let all = covers (front ++ b ∷ []) t (head_len whole) (λ k some. ends_behind front b t k none some) in
-    let is = ap (is_too_long at) (front_parts (front ++ b ∷ []) t len all)
-    ∙ long_more at (front ++ b ∷ []) (take (len - length (front ++ b ∷ [])) t) long in
+    let all = covers front t (head_len whole) behind in
+    let is = ap (is_too_long at) (front_parts front t len all) ∙ long_more at front (take (len - length front) t) long in
     ap (λ (x : Bool). cond x (Fault HeadTooLong) (by_front method at (head_len whole) whole then_)) is
 
 pub short_of : (at : ℕ) (front : List ℕ) → is_too_long at front ≡ false → at ≤ 65536
@@ -180,7 +193,7 @@ head_first method at front t then_ some short =
 drop_seam : (front t : List ℕ) → drop (length front) (front ++ t) ≡ t
 drop_seam front t = ap (λ (n : ℕ). drop n (front ++ t)) (sym (add-zero (length front))) ∙ drop-append-add front t 0
 
-parsed_step : (method : Method) (at : ℕ) (front t : List ℕ) (h : Option ReplyHead) → head_len front ≡ Some (length front)
+pub parsed_step : (method : Method) (at : ℕ) (front t : List ℕ) (h : Option ReplyHead) → head_len front ≡ Some (length front)
     → is_too_long at front ≡ false → reply_head front ≡ h
     → heads method at 0 (front ++ t) ≡ went method (by_parsed method (at + length front) h) t
 parsed_step method at front t None some short is =
@@ -229,12 +242,12 @@ head_step method at front b t none short =
         ≡ went method (cond x (Over (Fault HeadTooLong)) (by_blank method at (front ++ b ∷ []) (head_len (front ++ b ∷ [])))) t
     by_test true long =
         done_step method at ((front ++ b ∷ []) ++ t) (Fault HeadTooLong) (short_of at front short)
-        (λ then_. too_long_step method at front b t then_ none long)
+        (λ then_. too_long_front method at (front ++ b ∷ []) t then_ (λ k some. ends_behind front b t k none some) long)
     by_test false fits = blank_step method at front b t (head_len (front ++ b ∷ [])) none fits refl
 
 pub state_step : (method : Method) (s : State) (b : ℕ) (t : List ℕ) → IsState s
     → shown method s (b ∷ t) ≡ went method (next method s b) t
 state_step method (InHead at front) b t is = head_step method at front b t is.0 is.1
-state_step method (InLength h n at left) b t is = length_step method h n at left b t is
-state_step method (InOpen h count) b t is = open_step method h count b t
-state_step method (InChunks h at count size place) b t is = chunk_step method h at count size place b t is.0 is.1
+state_step method (InLength r at left) b t is = length_step method r at left b t is.1
+state_step method (InOpen r count) b t is = open_step method r count b t
+state_step method (InChunks r at count size place) b t is = chunk_step method r at count size place b t is.2.few is.2.fits

@@ -11,11 +11,11 @@ use Rattle.wire_head.specs.declared.reply.Reply.{Reply}
 use Rattle.wire_head.specs.declared.framing.Framing.{Framing}
 use Rattle.wire_head.specs.declared.framing.Framing.TheVariants.{Length, Chunked, ToEnd, Bad as BadFrame, TooLong}
 use Rattle.wire_head.specs.declared.reply.WireFault.TheVariants.{HeadTooLong, BodyTooLong}
-use Rattle.wire_head.specs.declared.plain.Progress.{Progress}
-use Rattle.wire_head.specs.declared.plain.Progress.TheVariants.{Open, Whole, Fault}
+use Rattle.wire_head.specs.declared.progress.Progress.{Progress}
+use Rattle.wire_head.specs.declared.progress.Progress.TheVariants.{Open, Whole, Fault}
 use Rattle.wire_head.specs.Lines.{head_len, line_end}
 use Rattle.wire_head.specs.ResponseHeads.{reply_head}
-use Rattle.wire_head.specs.Replies.{body_limit, framing, reply_of, is_interim, is_too_long, heads, first_head, front_len, by_front, by_chunks, progress, reply, answer}
+use Rattle.wire_head.specs.Replies.{body_limit, framing, reply_of, is_interim, is_too_long, heads, first_head, front_len, by_front, progress, reply, answer}
 use Rattle.wire_head.specs.declared.chunked_body.ChunkedBody.TheVariants.{Part as NoBody}
 use Rattle.wire_head.specs.declared.lines.Front.TheVariants.{Wrong, Part}
 use Rattle.wire_head.specs.ChunkedBodies.{longer}
@@ -23,8 +23,16 @@ use Rattle.wire_head.proofs.ProgressLemmas.{done_step}
 use Rattle.wire_head.proofs.HeadLengthLemmas.{head_within}
 use Rattle.wire_head.proofs.StateLemmas.{ends_behind, short_of}
 use Rattle.wire_head.proofs.RunLemmas.{state_keeps, whole_run}
-use Rattle.wire_head.proofs.ChunkPlaces.{Place, Fresh, Digits, Extension, SizeReturn, Bytes, BytesReturn, Trailer, TrailerReturn, TrailerLine, rest, line_then, end_then, Move, Goes, Bad, Done, move, IsPlace}
-use Rattle.wire_head.proofs.ReadingStates.{State, InHead, InLength, InOpen, InChunks, shown, IsState, Next, On, Over, IsNext, begun, by_parsed, by_blank, chunk_next, next, after, run, is_open, IsAt, IsProgressAt, IsNextAt}
+use Rattle.wire_head.specs.declared.chunk_place.Place.{Place}
+use Rattle.wire_head.specs.declared.chunk_place.Place.TheVariants.{Fresh, Digits, Extension, SizeReturn, Bytes, BytesReturn, Trailer, TrailerReturn, TrailerLine}
+use Rattle.wire_head.specs.declared.chunk_place.Move.{Move}
+use Rattle.wire_head.specs.declared.chunk_place.Move.TheVariants.{Goes, Bad, Done}
+use Rattle.wire_head.specs.ChunkPlaces.{rest, line_then, end_then, move, IsPlace}
+use Rattle.wire_head.specs.declared.state.State.{State}
+use Rattle.wire_head.specs.declared.state.State.TheVariants.{InHead, InLength, InOpen, InChunks}
+use Rattle.wire_head.specs.declared.state.Next.{Next}
+use Rattle.wire_head.specs.declared.state.Next.TheVariants.{On, Over}
+use Rattle.wire_head.specs.ReadingStates.{chunks_show, at_end, shown, IsState, IsNext, begun, by_parsed, by_blank, chunk_next, next, after, run, is_open, IsAt, IsProgressAt, IsNextAt}
 
 begun_at : (h : ReplyHead) (at : ℕ) (f : Framing) → IsNextAt (begun h at f) at
 begun_at h at BadFrame = (tt, refl)
@@ -33,11 +41,11 @@ begun_at h at ToEnd = tt
 begun_at h at Chunked = add-zero at
 begun_at h at (Length n) = by_test (n == 0) refl
   where
-    by_test : (x : Bool) → (n == 0) ≡ x → IsNextAt (cond x (Over (Whole (reply_of (Length n) h n) (at + n))) (On (InLength h n at n))) at
+    by_test : (x : Bool) → (n == 0) ≡ x → IsNextAt (cond x (Over (Whole (reply_of (Length n) h n) (at + n))) (On (InLength (reply_of (Length n) h n) at n))) at
     by_test true is = (grind (arith, nat_tests), refl)
     by_test false is = refl
 
-parsed_at : (method : Method) (at : ℕ) (h : Option ReplyHead) → IsNextAt (by_parsed method at h) at
+pub parsed_at : (method : Method) (at : ℕ) (h : Option ReplyHead) → IsNextAt (by_parsed method at h) at
 parsed_at method at None = (tt, refl)
 parsed_at method at (Some h) = by_test (is_interim h.code)
   where
@@ -62,27 +70,27 @@ next_at method (InHead at front) b k is place = by_test (is_too_long at (front +
     by_test false =
         subst (λ (m : ℕ). IsNextAt (by_blank method at (front ++ b ∷ []) (head_len (front ++ b ∷ []))) (m + 1)) place
         (blank_at method at front b (head_len (front ++ b ∷ [])) is.0 refl)
-next_at method (InLength h n at left) b k is place = by_test (left == 1)
+next_at method (InLength r at left) b k is place = by_test (left == 1)
   where
-    by_test : (x : Bool) → IsNextAt (cond x (Over (Whole (reply_of (Length n) h n) (at + 1))) (On (InLength h n (at + 1) (left - 1)))) (k + 1)
+    by_test : (x : Bool) → IsNextAt (cond x (Over (Whole r (at + 1))) (On (InLength r (at + 1) (left - 1)))) (k + 1)
     by_test true = (omega arith, refl)
     by_test false = omega arith
-next_at method (InOpen h count) b k is place = by_test (nat_lt body_limit (count + 1))
+next_at method (InOpen r count) b k is place = by_test (nat_lt body_limit (count + 1))
   where
-    by_test : (x : Bool) → IsNextAt (cond x (Over (Fault BodyTooLong)) (On (InOpen h (count + 1)))) (k + 1)
+    by_test : (x : Bool) → IsNextAt (cond x (Over (Fault BodyTooLong)) (On (InOpen r (count + 1)))) (k + 1)
     by_test true = (tt, refl)
     by_test false = tt
-next_at method (InChunks h at count size place_) b k is place = by_move (move place_ b)
+next_at method (InChunks r at count size place_) b k is place = by_move (move place_ b)
   where
-    by_done : (x : Bool) → IsNextAt (cond x (Over (Fault BodyTooLong)) (Over (Whole (reply_of Chunked h size) (at + (count + 1))))) (k + 1)
+    by_done : (x : Bool) → IsNextAt (cond x (Over (Fault BodyTooLong)) (Over (Whole (record r { body = size }) (at + (count + 1))))) (k + 1)
     by_done true = (tt, refl)
     by_done false = (omega arith, refl)
 
-    by_goes : (p : Place) (more : ℕ) (x : Bool) → IsNextAt (cond x (Over (Fault BodyTooLong)) (On (InChunks h at (count + 1) (size + more) p))) (k + 1)
+    by_goes : (p : Place) (more : ℕ) (x : Bool) → IsNextAt (cond x (Over (Fault BodyTooLong)) (On (InChunks r at (count + 1) (size + more) p))) (k + 1)
     by_goes p more true = (tt, refl)
     by_goes p more false = omega arith
 
-    by_move : (m : Move) → IsNextAt (chunk_next h at count size m) (k + 1)
+    by_move : (m : Move) → IsNextAt (chunk_next r at count size m) (k + 1)
     by_move Bad = (tt, refl)
     by_move Done = by_done (nat_lt body_limit (count + 1))
     by_move (Goes p more) = by_goes p more (nat_lt body_limit (count + 1))
@@ -121,6 +129,7 @@ nothing n (x ∷ xs) none = absurd (omega arith)
 no_body : (place : Place) → IsPlace place → rest place [] ≡ NoBody
 no_body Fresh is = refl
 no_body (Digits count v) is =
+    let few = is.0 in
     let within : nat_lt 8 (count + 0) ≡ false = grind (arith, nat_tests) in
     ap (λ (x : Bool). line_then (cond x (Wrong (8 - count)) Part) v []) within
 no_body (Extension v) is = refl
@@ -131,25 +140,27 @@ no_body Trailer is = refl
 no_body TrailerReturn is = refl
 no_body TrailerLine is = refl
 
-pub empty_open : (method : Method) (s : State) → IsState s → is_open (shown method s []) ≡ true
+pub empty_open : (method : Method) (s : State) → IsState s → shown method s [] ≡ Open (at_end s)
 empty_open method (InHead at front) is =
     let first : (next_ : Progress) → first_head method at front next_ ≡ Open None = λ next_.
     ap (λ (n : Option ℕ). cond (is_too_long at (take (front_len n front) front)) (Fault HeadTooLong) (by_front method at n front next_)) is.0
     ∙ ap (λ (xs : List ℕ). cond (is_too_long at xs) (Fault HeadTooLong) (Open None)) (take_all (length front) front (omega arith))
     ∙ ap (λ (x : Bool). cond x (Fault HeadTooLong) (Open None)) is.1 in
-    ap (λ (xs : List ℕ). is_open (heads method at 0 xs)) (append-nil front)
-    ∙ ap is_open (done_step method at front (Open None) (short_of at front is.1) first)
-empty_open method (InLength h n at left) is =
+    ap (heads method at 0) (append-nil front) ∙ done_step method at front (Open None) (short_of at front is.1) first
+empty_open method (InLength r at left) is =
+    let some = is.1 in
     let less : nat_le left 0 ≡ false = grind (arith, nat_tests) in
-    ap (λ (x : Bool). is_open (cond x (Whole (reply_of (Length n) h n) (at + left)) (Open None))) less
-empty_open method (InOpen h count) is =
+    ap (λ (x : Bool). cond x (Whole r (at + left)) (Open None)) less
+empty_open method (InOpen r count) is =
+    let few = is.1 in
     let within : nat_lt body_limit (count + 0) ≡ false = grind (arith, nat_tests) in
-    ap (λ (x : Bool). is_open (cond x (Fault BodyTooLong) (Open (Some (reply_of ToEnd h (count + 0)))))) within
-empty_open method (InChunks h at count size place) is =
-    let few = is.0 in
+    ap (λ (x : Bool). cond x (Fault BodyTooLong) (Open (Some (record r { body = count + 0 })))) within
+    ∙ ap (λ (n : ℕ). Open (Some (record r { body = n }))) (add-zero count)
+empty_open method (InChunks r at count size place) is =
+    let few = is.2.few in
     let within : nat_lt body_limit (count + 0) ≡ false = grind (arith, nat_tests) in
-    ap (λ (b : ChunkedBody). is_open (by_chunks (longer count size b) h at (count + 0))) (no_body place is.1)
-    ∙ ap (λ (x : Bool). is_open (cond x (Fault BodyTooLong) (Open None))) within
+    ap (λ (b : ChunkedBody). chunks_show (longer count size b) r at (count + 0)) (no_body place is.2.fits)
+    ∙ ap (λ (x : Bool). cond x (Fault BodyTooLong) (Open None)) within
 
 -- behind a state a whole reply ends at one of the bytes
 
@@ -167,7 +178,7 @@ ends_next method (On s) k m reply text ok at whole later =
 
 ends : (method : Method) (text : List ℕ) (s : State) (k m : ℕ) (reply : Reply) → IsState s → IsAt s k
     → run method text s ≡ Whole reply m → (k < m) × (m ≤ k + length text)
-ends method [] s k m reply is at whole = not_whole (shown method s []) m reply (empty_open method s is) whole
+ends method [] s k m reply is at whole = not_whole (shown method s []) m reply (ap is_open (empty_open method s is)) whole
 ends method (b ∷ text) s k m reply is at whole =
     ends_next method (next method s b) k m reply text (state_keeps method s b is) (next_at method s b k is at) whole
     (λ t ok place same. ends method text t (k + 1) m reply ok place same)
@@ -190,7 +201,7 @@ stays_next method (On s) text more ok decided later = later s ok decided
 
 stays : (method : Method) (text more : List ℕ) (s : State) → IsState s → is_open (run method text s) ≡ false
     → run method (text ++ more) s ≡ run method text s
-stays method [] more s is decided = absurd (true≢false (sym (empty_open method s is) ∙ decided))
+stays method [] more s is decided = absurd (true≢false (sym (ap is_open (empty_open method s is)) ∙ decided))
 stays method (b ∷ text) more s is decided =
     stays_next method (next method s b) text more (state_keeps method s b is) decided (λ t ok same. stays method text more t ok same)
 

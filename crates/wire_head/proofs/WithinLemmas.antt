@@ -1,8 +1,8 @@
 -- A whole reply ends within its text.
-use Rattle.std.proofs.Common.{◌≡◌, ℕ, ◌≤◌, Bool, true, false, List, [], length, Option, Some, None, Result, Ok, Err, refl, sym, ap, arith}
+use Rattle.std.proofs.Common.{◌≡◌, ℕ, ◌≤◌, Bool, true, false, List, [], length, Some, None, Ok, refl, sym, ap, arith}
 use Rattle.spaces.specs.declared.roster.Method.{Method}
-use Rattle.wire_head.specs.declared.plain.Progress.{Progress}
-use Rattle.wire_head.specs.declared.plain.Progress.TheVariants.{Open, Whole, Fault}
+use Rattle.wire_head.specs.declared.progress.Progress.{Progress}
+use Rattle.wire_head.specs.declared.progress.Progress.TheVariants.{Open, Whole, Fault}
 use Rattle.wire_head.specs.declared.reply.Reply.{Reply}
 use Rattle.wire_head.specs.Replies.{progress, answer, reply}
 use Rattle.wire_head.proofs.UsedLemmas.{used}

@@ -1,20 +1,30 @@
 -- What a reader answers to its pieces.
-use Rattle.std.specs.Prelude.{◌≡◌, ℕ, ◌+◌, ◌≤◌, List, ⊤, Option, Some, None, Result, Ok, Err}
+use Rattle.std.specs.Prelude.{◌≡◌, ℕ, ◌+◌, ◌≤◌, List, length, ⊤, Option, Some, None, Result, Ok, Err}
 use Rattle.spaces.specs.declared.roster.Method.{Method}
 use Rattle.wire_head.specs.declared.reply.Reply.{Reply}
 use Rattle.wire_head.specs.declared.reply.WireFault.{WireFault}
 use Rattle.wire_head.specs.declared.reader.At.{At}
 use Rattle.wire_head.specs.declared.reader.At.TheVariants.{More, Whole, Fault, NoMemory}
 use Rattle.wire_head.specs.declared.reader.Fed.{Fed}
+use Rattle.wire_head.specs.declared.state.State.{State}
+use Rattle.wire_head.specs.ReadingStates.{IsAt, StandsFor}
 
--- a request's method, and what was fed of its reply
+-- a request's method, and what the reader keeps of its reply
+pub record Reading : Type 0 where
+  pub method : Method
+  pub state : State
+
+-- the reader of a reply to this method was fed these bytes, of which more may come: whatever comes, they show together what it shows behind the reader's state
+abbrev pub IsFed : Reading → Method → List ℕ → Type 0
+IsFed r method fed = (r.method ≡ method) × IsAt r.state (length fed) × StandsFor method r.state fed
+
+-- the same of the plain reader, which keeps the bytes
 pub record Text : Type 0 where
   pub method : Method
   pub bytes : List ℕ
 
--- the reader of a reply to this method was fed these bytes, of which more may come
-abbrev pub IsFed : Text → Method → List ℕ → Type 0
-IsFed r method fed = (r.method ≡ method) × (r.bytes ≡ fed)
+abbrev pub IsKept : Text → Method → List ℕ → Type 0
+IsKept r method fed = (r.method ≡ method) × (r.bytes ≡ fed)
 
 abbrev pub IsAnswerAt : Result (Option (Reply × ℕ)) WireFault → ℕ → ℕ → ℕ → At → Type 0
 IsAnswerAt told before len used More = (told ≡ Ok None) × (used ≡ len)

@@ -1,10 +1,13 @@
 pub mod ChunkedBodies
+pub mod ChunkPlaces
 pub mod Feeding
 pub mod FinalHeads
 pub mod HeaderFields
 pub mod HeadLines
 pub mod Lines
 pub mod ReadHeads
+pub mod ReadingRuns
+pub mod ReadingStates
 pub mod Replies
 pub mod RequestHeads
 pub mod ResponseHeads

@@ -1,9 +1,9 @@
 -- One head of a reply.
 use Rattle.std.specs.Prelude.{◌≡◌, ℕ, ◌+◌, ◌<◌, ◌≤◌, List, length, Some}
 use Rattle.spaces.specs.declared.roster.Method.{Method}
-use Rattle.wire_head.specs.declared.plain.Progress.{Progress}
-use Rattle.wire_head.specs.declared.plain.Step.{Step}
-use Rattle.wire_head.specs.declared.plain.Step.TheVariants.{Done, Interim}
+use Rattle.wire_head.specs.declared.progress.Progress.{Progress}
+use Rattle.wire_head.specs.declared.laws.plain.Step.{Step}
+use Rattle.wire_head.specs.declared.laws.plain.Step.TheVariants.{Done, Interim}
 use Rattle.wire_head.specs.Lines.{head_len}
 use Rattle.wire_head.specs.Replies.{first_head}
 

@@ -1,4 +1,5 @@
-//! What the definition of a reply says as a whole, and of some texts.
+//! What the definition of a reply says as a whole, and of some texts; and the plain form of its
+//! reader, which keeps all bytes.
 
 ghost use Rattle.std.specs.Prelude.{◌≡◌, ◌++◌, [], ◌∷◌, codes, Bool, true, false, Some, None, Ok};
 ghost use Rattle.std.specs.Prelude.{List, ℕ, length, ◌+◌, ◌<◌, ◌≤◌};
@@ -14,9 +15,12 @@ ghost use Rattle.wire_head.specs.FinalHeads.{IsShown, Carries, final_head, is_fi
 ghost use Rattle.wire_head.specs.declared.reply.Reply.{Reply};
 ghost use Rattle.wire_head.specs.declared.response_head.ReplyHead.{ReplyHead};
 ghost use Rattle.spaces.specs.declared.roster.Method.TheVariants.{Get};
-ghost use Rattle.wire_head.specs.declared.plain.Progress.TheVariants.{Open, Whole, Fault};
+ghost use Rattle.wire_head.specs.declared.progress.Progress.TheVariants.{Open, Whole, Fault};
 ghost use Rattle.wire_head.specs.declared.reply.WireFault.TheVariants.{BadHead, HeadTooLong};
 ghost use Rattle.wire_head.specs.declared.reply.WireFault.TheVariants.{BadFraming, BodyTooLong};
+
+mod plain;
+pub(crate) mod plain_reader;
 
 /// A text has one outcome: once it is decided, it stays, whatever follows and whether the stream
 /// ends.

@@ -1,7 +1,7 @@
 //! Lines of HTTP: where one ends, and where a head ends, which is its first blank line
 //! (RFC 7230, section 3.5, lets LF alone end a line).
 
-ghost use Rattle.std.specs.Prelude.{◌≡◌, ◌==◌, ◌<◌, ◌≤◌, length, IfSome};
+ghost use Rattle.std.specs.Prelude.{◌≡◌, ◌==◌, ◌<◌, ◌≤◌, length, take, None, IfSome};
 ghost use Rattle.std.specs.List.{position_from};
 ghost use Rattle.wire_head.specs.Lines as spec;
 ghost use Rattle.wire_head.specs.Within.{IsFrontWithin};
@@ -64,6 +64,20 @@ pub(crate) fn head_len(text: &[u8]) -> Option<usize>
         }
     }
     None
+}
+
+/// The same, where no blank line ends within so many first bytes.
+pub(crate) fn head_len_behind(text: &[u8], before: usize) -> Option<usize>
+    requires within { before ≤ length text.now }
+    requires none { spec.head_len (take before text.now) ≡ None }
+    ensures value { result ≡ spec.head_len text.now }
+    ensures within { IfSome result (λ n. (0 < n) × (n ≤ length text.now)) }
+{
+    let from = before.saturating_sub(2);
+    match head_len(rest_of(text, from)) {
+        Some(n) => Some(from + n),
+        None => None,
+    }
 }
 
 /// The end of a line: LF, or CR and LF.

@@ -1,17 +1,22 @@
-//! Replies that come in pieces. This reader keeps every byte and judges all of them anew at each
-//! piece; its contract speaks of the bytes fed alone, so that a reader that keeps less can keep it.
+//! Replies that come in pieces. The reader keeps the current head, and once the final one was read,
+//! in its place what the reply carries of it, and numbers; never the body. Its contract speaks of the
+//! bytes fed alone.
 
 ghost use Rattle.std.specs.Prelude.{◌≡◌, ◌++◌, [], List, ℕ, length, false, true, IfOk};
 ghost use Rattle.spaces.specs.declared.roster.Method.{Method};
 ghost use Rattle.wire_head.specs.Feeding.{IsFed, IsAnswer, IsMore, IsAnswerAtEnd};
 ghost use Rattle.wire_head.specs.Replies.{reply};
+ghost use Rattle.wire_head.specs.declared.state.State.TheVariants.{InHead};
 
-use crate::plain::{Progress, progress_of};
+use crate::progress::Progress;
+use crate::reading::{Stepped, read, with_body};
 use crate::reply::{Reply, WireFault};
+use crate::state::{Next, State};
 use auth_text::{Bytes, NoMemory};
 use spaces::Method;
 use std::alloc::Global;
 use std::marker::Model;
+use std::mem;
 
 /// What all bytes show that were fed.
 #[derive(Debug, Drop)]
@@ -37,21 +42,28 @@ pub struct Fed {
 pub struct ReplyReader {
     method: Method,
     alloc: Global,
-    bytes: Bytes,
-    at_end: Option<Reply>,
+    state: State,
 }
 
 impl Model for ReplyReader {
-    ghost use Rattle.std.specs.Prelude.{◌≡◌};
-    ghost use Rattle.wire_head.specs.Feeding.{Text};
-    ghost use Rattle.wire_head.specs.Replies.{progress};
-    ghost use Rattle.wire_head.specs.declared.plain.Progress.TheVariants.{Open};
+    ghost use Rattle.wire_head.specs.Feeding.{Reading};
+    ghost use Rattle.wire_head.specs.ReadingStates.{IsState};
 
-    ghost Value = { Text };
+    ghost Value = { Reading };
 
-    ghost view = { λ r. record { method = r.method; bytes = r.bytes } };
+    ghost view = { λ r. record { method = r.method; state = r.state } };
 
-    ghost invariant = { λ r. progress r.method r.bytes ≡ Open r.at_end };
+    ghost invariant = { λ r. IsState r.state };
+}
+
+/// The state before any byte.
+fn fresh(alloc: Global) -> State
+    ensures { result ≡ InHead 0 [] }
+{
+    State::InHead {
+        at: 0,
+        front: Bytes::new(alloc),
+    }
 }
 
 impl ReplyReader {
@@ -62,12 +74,12 @@ impl ReplyReader {
         Ok(ReplyReader {
             method,
             alloc,
-            bytes: Bytes::new(alloc),
-            at_end: None,
+            state: fresh(alloc),
         })
     }
 
-    /// Reads one more piece. The answer is that of all the bytes fed, however they were cut.
+    /// Reads one more piece. The answer is that of all the bytes fed, however they were cut. Behind
+    /// any other answer than `More` the reader is one of a new reply.
     pub fn feed(&mut self, bytes: &[u8]) -> Fed
         ensures answer { (method : Method) (fed : List ℕ) → IsFed self.old method fed
             → IsAnswer
@@ -75,42 +87,27 @@ impl ReplyReader {
         ensures fed { (method : Method) (fed : List ℕ) → IsFed self.old method fed
             → IsMore result → IsFed self.new method (fed ++ bytes.now) }
     {
-        let before = self.bytes.len();
-        let Ok(()) = self.bytes.extend_from_slice(bytes) else {
-            return Fed {
-                used: 0,
-                at: At::NoMemory,
-            };
-        };
-        match progress_of(self.alloc, self.method, self.bytes.as_slice()) {
-            Ok(Progress::Open(at_end)) => {
-                self.at_end = at_end;
-                Fed {
-                    used: bytes.len(),
-                    at: At::More,
+        let state = mem::replace(&mut self.state, fresh(self.alloc));
+        match read(self.alloc, self.method, state, bytes) {
+            Ok(Stepped { used, next }) => match next {
+                Next::On(state) => {
+                    self.state = state;
+                    Fed { used, at: At::More }
                 }
-            }
-            Ok(Progress::Whole(reply, n)) => {
-                self.bytes.truncate(before);
-                Fed {
-                    used: n.saturating_sub(before),
+                Next::Over(Progress::Whole(reply, _)) => Fed {
+                    used,
                     at: At::Whole(reply),
-                }
-            }
-            Ok(Progress::Fault(fault)) => {
-                self.bytes.truncate(before);
-                Fed {
+                },
+                Next::Over(Progress::Fault(fault)) => Fed {
                     used: 0,
                     at: At::Fault(fault),
-                }
-            }
-            Err(NoMemory) => {
-                self.bytes.truncate(before);
-                Fed {
-                    used: 0,
-                    at: At::NoMemory,
-                }
-            }
+                },
+                Next::Over(Progress::Open(_)) => unreachable!(),
+            },
+            Err(NoMemory) => Fed {
+                used: 0,
+                at: At::NoMemory,
+            },
         }
     }
 
@@ -122,12 +119,11 @@ impl ReplyReader {
         let ReplyReader {
             method: _,
             alloc: _,
-            bytes: _,
-            at_end,
+            state,
         } = self;
-        match at_end {
-            Some(reply) => Ok(reply),
-            None => Err(WireFault::Cut),
+        match state {
+            State::InOpen { reply, count } => Ok(with_body(reply, count)),
+            _ => Err(WireFault::Cut),
         }
     }
 }

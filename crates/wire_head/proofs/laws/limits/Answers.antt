@@ -3,8 +3,8 @@ use Rattle.std.specs.Prelude.{nat_le}
 use Rattle.std.proofs.lemmas.Bool.Decides.{nat_tests}
 use Rattle.std.proofs.lemmas.List.{take_all}
 use Rattle.spaces.specs.declared.roster.Method.{Method}
-use Rattle.wire_head.specs.declared.plain.Progress.{Progress}
-use Rattle.wire_head.specs.declared.plain.Progress.TheVariants.{Open, Whole, Fault}
+use Rattle.wire_head.specs.declared.progress.Progress.{Progress}
+use Rattle.wire_head.specs.declared.progress.Progress.TheVariants.{Open, Whole, Fault}
 use Rattle.wire_head.specs.declared.reply.WireFault.TheVariants.{HeadTooLong}
 use Rattle.httparse.proofs.OnLiterals.{httparse_on_literals}
 use Rattle.wire_head.specs.Lines.{head_len}

@@ -1,21 +1,31 @@
-use Rattle.std.proofs.Common.{◌≡◌, ◌++◌, ◌-◌, ℕ, List, length, sym, ap, ◌∙◌}
-use Rattle.spaces.specs.declared.roster.Method.{Method}
-use Rattle.wire_head.specs.Replies.{progress}
-use Rattle.wire_head.specs.declared.plain.Progress.TheVariants.{Open, Whole}
-use Rattle.wire_head.proofs.UsedLemmas.{whole_answer}
+use Rattle.std.proofs.Common.{◌≡◌, length, sym, ap, subst, ◌∙◌}
+use Rattle.wire_head.specs.declared.progress.Progress.TheVariants.{Whole, Fault}
+use Rattle.wire_head.specs.declared.state.Next.TheVariants.{On, Over}
+use Rattle.wire_head.specs.Feeding.{Reading, IsFed}
+use Rattle.wire_head.specs.ReadingRuns.{IsAllNext}
+use Rattle.wire_head.proofs.FeedLemmas.{read_as, more_answer, whole_reply, fault_reply}
 use Rattle.wire_head.proofs.reader.ReplyReader.feed.Goals as goal
 
-pub returns-in-Ok-Whole-clause-answer : goal.returns-in-Ok-Whole-clause-answer
-returns-in-Ok-Whole-clause-answer c method fed is =
-    let inside_method : c.self.inside.method ≡ method = search in
-    let inside_bytes : c.self.inside.bytes ≡ fed = search in
-    let undecided : progress method fed ≡ Open c.self.inside.at_end = search in
-    let text : c.as_slice.result.now ≡ fed ++ c.args.bytes.now =
-    c.as_slice.ensures ∙ c.in-Ok.ensures.ok ∙ ap (λ (t : List ℕ). t ++ c.args.bytes.now) inside_bytes in
-    let same : progress c.self.inside.method c.as_slice.result.now ≡ progress method (fed ++ c.args.bytes.now) =
-    ap (λ (m : Method). progress m c.as_slice.result.now) inside_method ∙ ap (progress method) text in
-    let whole : progress method (fed ++ c.args.bytes.now) ≡ Whole c.in-Ok-Whole.reply c.in-Ok-Whole.n =
-    sym same ∙ sym c.in-Ok-Whole.ensures ∙ c.in-Ok-Whole.field-0-is in
-    let ends : c.saturating_sub.result ≡ c.in-Ok-Whole.n - length fed =
-    c.saturating_sub.ensures ∙ ap (λ (k : ℕ). c.in-Ok-Whole.n - k) (c.len-before.ensures ∙ ap length inside_bytes) in
-    whole_answer method fed c.args.bytes.now c.self.inside.at_end c.in-Ok-Whole.reply c.in-Ok-Whole.n c.saturating_sub.result undecided whole ends
+pub returns-in-On-clause-answer : goal.returns-in-On-clause-answer
+returns-in-On-clause-answer c method fed is =
+    let r : Reading = record { method = c.self.inside.method; state = c.self.inside.state } in
+    let was : IsFed r method fed = subst (λ (x : Reading). IsFed x method fed) (sym c.self.view_is) is in
+    let read = read_as r.method r.state c.replace-state.result c.args.bytes.now c.in-Ok.field-0 (On c.in-On.state) c.in-Ok.ensures.read c.replace-state.ensures.value c.in-On.is in
+    let all : c.in-Ok.field-0.used ≡ length c.args.bytes.now = subst (IsAllNext c.in-Ok.field-0.used (length c.args.bytes.now)) c.in-On.is c.in-Ok.ensures.all in
+    (more_answer r method fed c.args.bytes.now c.in-Ok.field-0.used c.in-On.state was read all, all)
+
+pub returns-in-Over-Whole-clause-answer : goal.returns-in-Over-Whole-clause-answer
+returns-in-Over-Whole-clause-answer c method fed is =
+    let r : Reading = record { method = c.self.inside.method; state = c.self.inside.state } in
+    let was : IsFed r method fed = subst (λ (x : Reading). IsFed x method fed) (sym c.self.view_is) is in
+    let read = read_as r.method r.state c.replace-state.result c.args.bytes.now c.in-Ok.field-0 (Over (Whole c.in-Over-Whole.reply c.in-Over-Whole.field-0-1))
+    c.in-Ok.ensures.read c.replace-state.ensures.value (c.in-Over-Whole.is ∙ ap Over c.in-Over-Whole.field-0-is) in
+    whole_reply r method fed c.args.bytes.now c.in-Ok.field-0.used c.in-Over-Whole.field-0-1 c.in-Over-Whole.reply was read
+
+pub returns-in-Over-Fault-clause-answer : goal.returns-in-Over-Fault-clause-answer
+returns-in-Over-Fault-clause-answer c method fed is =
+    let r : Reading = record { method = c.self.inside.method; state = c.self.inside.state } in
+    let was : IsFed r method fed = subst (λ (x : Reading). IsFed x method fed) (sym c.self.view_is) is in
+    let read = read_as r.method r.state c.replace-state.result c.args.bytes.now c.in-Ok.field-0 (Over (Fault c.in-Over-Fault.fault))
+    c.in-Ok.ensures.read c.replace-state.ensures.value (c.in-Over-Fault.is ∙ ap Over c.in-Over-Fault.field-0-is) in
+    fault_reply r method fed c.args.bytes.now c.in-Ok.field-0.used c.in-Over-Fault.fault was read

@@ -3,7 +3,7 @@ use Rattle.std.proofs.lemmas.List.{drop-drop}
 use Rattle.wire_head.specs.Steps.{IsStep}
 use Rattle.wire_head.specs.Replies.{heads}
 use Rattle.wire_head.proofs.ProgressLemmas.{done_step, interim_step}
-use Rattle.wire_head.proofs.plain.progress_of.Goals as goal
+use Rattle.wire_head.proofs.laws.plain.progress_of.Goals as goal
 
 pub returns-in-Done : goal.returns-in-Done
 returns-in-Done c =

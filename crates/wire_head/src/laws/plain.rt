@@ -1,29 +1,20 @@
 //! The plain reading of a reply: the definition's whole text, judged at once.
 
-ghost use Rattle.std.specs.Prelude.{◌≡◌, ◌+◌, ◌<◌, ◌≤◌, ◌^◌, length, count_by, ◌==◌, IfOk, false};
+ghost use Rattle.std.specs.Prelude.{◌≡◌, ◌+◌, ◌<◌, ◌≤◌, ◌^◌, length, IfOk};
 ghost use Rattle.wire_head.specs.Replies as spec;
 ghost use Rattle.wire_head.specs.Steps.{IsStep};
 ghost use Rattle.wire_head.specs.Within.{IsBodyWithin};
 
 use crate::chunked_body::{ChunkedBody, chunks};
 use crate::framing::{Framing, framing_of, reply_of};
+use crate::head_limits::{is_interim, is_too_long};
 use crate::lines::head_len;
-use crate::reply::{Reply, WireFault};
+use crate::progress::Progress;
+use crate::reply::WireFault;
 use crate::response_head::{ReplyHead, head_of};
 use auth_text::{NoMemory, front_of, rest_of};
 use spaces::Method;
 use std::alloc::Global;
-
-/// How far a text is as a reply.
-#[derive(Debug, Drop)]
-pub(crate) enum Progress {
-    /// Nothing is decided. With the reply that the text is, where the stream ends here and that is
-    /// no cut.
-    Open(Option<Reply>),
-    /// A whole reply, of so many bytes.
-    Whole(Reply, usize),
-    Fault(WireFault),
-}
 
 fn by_chunks(
     alloc: Global,
@@ -92,26 +83,6 @@ fn body_of(
         }
         Framing::Chunked => by_chunks(alloc, chunks(text), head, at, text.len()),
     }
-}
-
-fn is_interim(code: u16) -> bool
-    ensures { result ≡ spec.is_interim code }
-{
-    100 <= code && code < 200
-}
-
-fn lines_in(front: &[u8]) -> usize
-    ensures { result ≡ count_by (λ b. b == 10) front.now }
-{
-    front.iter().filter(|b| **b == b'\n').count()
-}
-
-fn is_too_long(at: usize, front: &[u8]) -> bool
-    requires { at + length front.now < 2 ^ 63 }
-    ensures value { result ≡ spec.is_too_long at front.now }
-    ensures few { result ≡ false → at + length front.now ≤ 65536 }
-{
-    65536 < at + front.len() || 256 < lines_in(front)
 }
 
 /// What one head shows: the whole answer, or an interim head of so many bytes.

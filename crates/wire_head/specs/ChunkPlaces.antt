@@ -1,5 +1,5 @@
 -- A chunked body from a place within it on.
-use Rattle.std.specs.Prelude.{ℕ, ◌+◌, ◌-◌, ◌*◌, ◌==◌, ◌||◌, nat_lt, ◌≤◌, ⊤, List, [], ◌∷◌, take, drop, Option, Some, None, if◌then◌else◌}
+use Rattle.std.specs.Prelude.{ℕ, ◌+◌, ◌-◌, ◌*◌, ◌==◌, ◌||◌, nat_lt, ◌<◌, ◌≤◌, ◌^◌, ⊤, List, [], ◌∷◌, take, drop, Option, Some, None, if◌then◌else◌}
 use Rattle.std.specs.List.{prefix_len, position_from}
 use Rattle.std.specs.Char.{is_ascii_hexdigit, digit_value}
 use Rattle.std.specs.Str.Parse.{digits_value_after}
@@ -7,21 +7,12 @@ use Rattle.wire_head.specs.declared.lines.Front.{Front}
 use Rattle.wire_head.specs.declared.lines.Front.TheVariants.{Whole, Wrong, Part}
 use Rattle.wire_head.specs.declared.chunked_body.ChunkedBody.{ChunkedBody}
 use Rattle.wire_head.specs.declared.chunked_body.ChunkedBody.TheVariants.{Ends, Wrong as BadBody, Part as NoBody}
+use Rattle.wire_head.specs.declared.chunk_place.Place.{Place}
+use Rattle.wire_head.specs.declared.chunk_place.Place.TheVariants.{Fresh, Digits, Extension, SizeReturn, Bytes, BytesReturn, Trailer, TrailerReturn, TrailerLine}
+use Rattle.wire_head.specs.declared.chunk_place.Move.{Move}
+use Rattle.wire_head.specs.declared.chunk_place.Move.TheVariants.{Goes, Bad, Done}
 use Rattle.wire_head.specs.Lines.{line_end, head_len}
 use Rattle.wire_head.specs.ChunkedBodies.{behind, up_to, size_end, trailer_len, longer, chunks}
-
--- a place: before a size line; behind some digits of one, with their value; in its extension; behind its CR; before
--- data and a line's end; behind that line's CR; before, behind the CR of, and in a trailer line
-pub data Place : Type 0 where
-  Fresh : Place
-  Digits : (count : ℕ) → (value : ℕ) → Place
-  Extension : (value : ℕ) → Place
-  SizeReturn : (value : ℕ) → Place
-  Bytes : (left : ℕ) → Place
-  BytesReturn : Place
-  Trailer : Place
-  TrailerReturn : Place
-  TrailerLine : Place
 
 abbrev pub lf_only : List ℕ → Front
 lf_only [] = Part
@@ -77,11 +68,6 @@ rest TrailerLine text = trailer_then (head_len text)
 
 -- One byte: on to a place, with so many bytes of data; a wrong byte; or the last one.
 
-pub data Move : Type 0 where
-  Goes : (place : Place) → (size : ℕ) → Move
-  Bad : Move
-  Done : Move
-
 abbrev pub sized_move : ℕ → Move
 sized_move value = if value == 0 then Goes Trailer 0 else Goes (Bytes value) value
 
@@ -96,19 +82,23 @@ end_move b = if b == 10 then Goes Fresh 0 else (if b == 13 then Goes BytesReturn
 abbrev pub bytes_move : ℕ → ℕ → Move
 bytes_move left b = if left == 0 then end_move b else Goes (Bytes (left - 1)) 0
 
+-- what an LF does, and any other byte
+abbrev pub line_move : ℕ → Move → Move → Move
+line_move b feed other = if b == 10 then feed else other
+
 abbrev pub move : Place → ℕ → Move
 move Fresh b = if is_ascii_hexdigit b then Goes (Digits 1 (digit_value b)) 0 else Bad
 move (Digits count value) b =
     if is_ascii_hexdigit b
     then (if nat_lt count 8 then Goes (Digits (count + 1) (value * 16 + digit_value b)) 0 else Bad)
     else size_move value b
-move (Extension value) b = if b == 10 then sized_move value else Goes (Extension value) 0
-move (SizeReturn value) b = if b == 10 then sized_move value else Bad
+move (Extension value) b = line_move b (sized_move value) (Goes (Extension value) 0)
+move (SizeReturn value) b = line_move b (sized_move value) Bad
 move (Bytes left) b = bytes_move left b
-move BytesReturn b = if b == 10 then Goes Fresh 0 else Bad
+move BytesReturn b = line_move b (Goes Fresh 0) Bad
 move Trailer b = if b == 10 then Done else (if b == 13 then Goes TrailerReturn 0 else Goes TrailerLine 0)
-move TrailerReturn b = if b == 10 then Done else Goes TrailerLine 0
-move TrailerLine b = if b == 10 then Goes Trailer 0 else Goes TrailerLine 0
+move TrailerReturn b = line_move b Done (Goes TrailerLine 0)
+move TrailerLine b = line_move b (Goes Trailer 0) (Goes TrailerLine 0)
 
 -- what is found behind the byte
 abbrev pub moved : Move → List ℕ → ChunkedBody
@@ -119,10 +109,10 @@ moved Done text = Ends 1 0
 -- at most eight digits
 abbrev pub IsPlace : Place → Type 0
 IsPlace Fresh = ⊤
-IsPlace (Digits count value) = count ≤ 8
-IsPlace (Extension value) = ⊤
-IsPlace (SizeReturn value) = ⊤
-IsPlace (Bytes left) = ⊤
+IsPlace (Digits count value) = (count ≤ 8) × (value < 16 ^ count)
+IsPlace (Extension value) = value < 2 ^ 32
+IsPlace (SizeReturn value) = value < 2 ^ 32
+IsPlace (Bytes left) = left < 2 ^ 32
 IsPlace BytesReturn = ⊤
 IsPlace Trailer = ⊤
 IsPlace TrailerReturn = ⊤
