@@ -174,3 +174,12 @@ front_none front taken later seen before none is_before joins same =
       ap (λ (xs : List ℕ). head_len (take before xs)) all ∙ ap (λ (n : ℕ). head_len (take n (front ++ taken))) is_before
           ∙ ap head_len (take-append_seam front taken) ∙ none,
     )
+
+pub front_short : (at before : ℕ) (front taken later : List ℕ) → is_too_long at front ≡ false → before ≡ length front → later ≡ front ++ taken
+    → (before ≤ length later) × (is_too_long at (take before later) ≡ false)
+front_short at before front taken later short is_before joins =
+    let size = ap length joins ∙ length-append front taken in (
+      omega (arith, size, is_before),
+      ap (λ (xs : List ℕ). is_too_long at (take before xs)) joins ∙ ap (λ (n : ℕ). is_too_long at (take n (front ++ taken))) is_before
+          ∙ ap (is_too_long at) (take-append_seam front taken) ∙ short,
+    )

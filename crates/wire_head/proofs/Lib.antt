@@ -9,6 +9,7 @@ pub mod FinalHeadLemmas
 pub mod HeadBackLemmas
 pub mod HeadLemmas
 pub mod HeadLengthLemmas
+pub mod HeadLimits
 pub mod HeadSteps
 pub mod LineLemmas
 pub mod MoveLemmas

@@ -1,10 +1,10 @@
 //! The reading of a reply, piece by piece: what the bytes of a piece do to what the reader keeps.
 
-ghost use Rattle.std.specs.Prelude.{◌≡◌, ◌+◌, ◌<◌, ◌≤◌, ◌^◌, None, Some, length, IfOk};
+ghost use Rattle.std.specs.Prelude.{◌≡◌, ◌+◌, ◌<◌, ◌≤◌, ◌^◌, length, take, false, IfOk};
 ghost use Rattle.spaces.specs.declared.roster.Method.{Method};
-ghost use Rattle.wire_head.specs.Lines.{head_len};
+ghost use Rattle.wire_head.specs.Replies as replies;
 ghost use Rattle.wire_head.specs.ReadingStates as spec;
-ghost use Rattle.wire_head.specs.ReadingStates.{IsState, IsCarried, IsWithin};
+ghost use Rattle.wire_head.specs.ReadingStates.{IsState};
 ghost use Rattle.wire_head.specs.ReadingRuns as runs;
 ghost use Rattle.wire_head.specs.ReadingRuns.{IsStepped, IsRead, IsAll};
 ghost use Rattle.wire_head.specs.declared.state.State.TheVariants.{InHead, InLength, InOpen};
@@ -13,7 +13,7 @@ ghost use Rattle.wire_head.specs.declared.state.State.TheVariants.{InChunks};
 use crate::chunk_place::Place;
 use crate::chunk_run::{ChunkRun, chunk_run};
 use crate::framing::{Framing, framing_of, reply_of};
-use crate::head_limits::{is_interim, is_too_long};
+use crate::head_limits::{is_interim, is_too_long, is_too_long_behind};
 use crate::lines::head_len_behind;
 use crate::progress::Progress;
 use crate::reply::{Reply, WireFault};
@@ -107,7 +107,7 @@ fn in_head(
     match head_len_behind(front.as_slice(), before) {
         None => Ok(Stepped {
             used,
-            next: unended_head(at, front),
+            next: unended_head(at, front, before),
         }),
         Some(n) => {
             let next = ended_head(alloc, method, at, front_of(front.as_slice(), n))?;
@@ -119,12 +119,14 @@ fn in_head(
     }
 }
 
-/// In a head that has no blank line yet.
-fn unended_head(at: usize, front: Bytes) -> Next
-    requires { at + length front < 2 ^ 63 }
+/// In a head that has no blank line yet, and whose so many first bytes are within the limits.
+fn unended_head(at: usize, front: Bytes, before: usize) -> Next
+    requires few { at + length front < 2 ^ 63 }
+    requires within { before ≤ length front }
+    requires short { replies.is_too_long at (take before front) ≡ false }
     ensures { result ≡ runs.unended_head at front }
 {
-    if is_too_long(at, front.as_slice()) {
+    if is_too_long_behind(at, front.as_slice(), before) {
         Next::Over(Progress::Fault(WireFault::HeadTooLong))
     } else {
         Next::On(State::InHead { at, front })

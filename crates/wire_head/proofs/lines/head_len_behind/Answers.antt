@@ -1,5 +1,4 @@
-use Rattle.std.proofs.Common.{◌≡◌, ◌+◌, ℕ, Option, Some, None, sym, ap, ◌∙◌}
-use Rattle.std.specs.Option.{option_map}
+use Rattle.std.proofs.Common.{◌≡◌, ◌+◌, Some, None}
 use Rattle.wire_head.specs.Lines.{head_len}
 use Rattle.wire_head.proofs.HeadLengthLemmas.{found_from, some_within}
 use Rattle.wire_head.proofs.lines.head_len_behind.Goals as goal

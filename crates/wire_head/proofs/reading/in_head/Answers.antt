@@ -1,6 +1,6 @@
 use Rattle.std.proofs.Common.{take, sym, ap, ◌∙◌, arith}
 use Rattle.wire_head.specs.Lines.{head_len}
-use Rattle.wire_head.proofs.HeadSteps.{front_none, room_some, head_on_by, head_over_by, head_past}
+use Rattle.wire_head.proofs.HeadSteps.{front_none, front_short, room_some, head_on_by, head_over_by, head_past}
 use Rattle.wire_head.proofs.reading.in_head.Goals as goal
 
 pub overflow_sub-result : goal.overflow_sub-result
@@ -29,3 +29,11 @@ pub head_len_behind-requires : goal.head_len_behind-requires
 head_len_behind-requires c =
     let front = front_none c.args.front c.front_of.result.now c.extend_from_slice.new.self c.as_slice.result.now c.len-before.result c.requires.state.0 c.len-before.ensures c.in_ok-extend_from_slice.ensures.ok c.as_slice.ensures in
     record { within = front.0; none = front.1 }
+
+pub unended_head-requires-clause-within : goal.unended_head-requires-clause-within
+unended_head-requires-clause-within c =
+    (front_short c.args.at c.len-before.result c.args.front c.front_of.result.now c.extend_from_slice.new.self c.requires.state.1 c.len-before.ensures c.in_ok-extend_from_slice.ensures.ok).0
+
+pub unended_head-requires-clause-short : goal.unended_head-requires-clause-short
+unended_head-requires-clause-short c =
+    (front_short c.args.at c.len-before.result c.args.front c.front_of.result.now c.extend_from_slice.new.self c.requires.state.1 c.len-before.ensures c.in_ok-extend_from_slice.ensures.ok).1
