@@ -9,6 +9,7 @@ ghost use Rattle.auth_events.specs.declared.told.Told.{Told};
 ghost use Rattle.plain_book.specs.Words.{unused};
 ghost use Rattle.trace_rule.specs.Settings.{setting_of};
 ghost use Rattle.trace_rule.specs.Traces.{IsTrace};
+ghost use Rattle.uses_requests.specs.Outcomes.{answer};
 
 use auth_book::AuthBook;
 use auth_controller::{Gear, serve_alone};
@@ -57,7 +58,9 @@ pub fn fetch<D: Dialer, P: Prompter>(
 }
 
 /// The code of the reply that answered the request, where one did.
-pub fn code_of(trace: &Trace) -> Option<u16> {
+pub fn code_of(trace: &Trace) -> Option<u16>
+    ensures { result ≡ answer trace.now }
+{
     match trace.events().last() {
         Some(
             Event::Ended {
