@@ -13,7 +13,7 @@ use Rattle.link_trait.specs.Links.{Stream, same_link, heard_in, heard_on, read_o
 use Rattle.link_trait.specs.declared.links.LinkName.{LinkName}
 use Rattle.link_trait.specs.declared.dialer.Traffic.{Traffic}
 use Rattle.auth_runs.specs.declared.event.Event.{Event}
-use Rattle.auth_runs.specs.declared.event.Event.TheVariants.{Dialed, DialFailed, Headed, Replied, Broken, LinkLost, AskedFor}
+use Rattle.auth_runs.specs.declared.event.Event.TheVariants.{Dialed, DialFailed, Headed, Replied, Broken, LinkLost, AskedFor, Stepped}
 use Rattle.connection_binding.specs.declared.ends.ReadEnd.{ReadEnd}
 use Rattle.connection_binding.specs.Readings.{is_read_of, IsReplyRead}
 use Rattle.trace_rule.specs.Settings.{Setting}
@@ -26,6 +26,7 @@ use Rattle.request_machine.specs.Asking.{IsAskedIn}
 use Rattle.request_machine.specs.Linked.{Way, way, goes_on, is_ending, Line, line, IsLinkedOn, IsLinked, nth_link, IsOnlyLink}
 use Rattle.request_machine.specs.Linked.Way.{Onward, Asking, Reading, Ending}
 use Rattle.request_machine.specs.Carried.{written, sent, is_short_at, IsSentAt, is_heard_on, IsUntouched, AreUntouched, IsSilent, IsRecorded, IsCarried, ReadsInto, TellsTraffic}
+use Rattle.request_machine.specs.Provided.{IsStepMore}
 use Rattle.request_machine.proofs.Dialing.{grown_more}
 use Rattle.request_machine.proofs.Hearing.{heard_alike, sent_reads, read_silent, read_quiet, reads_other, IsShownBy, shown_read, shown_sent, heard_into, sends_read, unheard_read}
 
@@ -78,6 +79,10 @@ still_past s e before now same still = record {
   heard = λ streams method r h. subst (IsHeard streams method r) (sym same) (still_heard streams method r e before still h);
   unheard = λ k. ap (list_any (is_heard_on k)) same ∙ still_unheard k e before still;
 }
+
+stepped_past : (s : Setting) (before now : List Event) → IsStepMore before now → IsStillPast s before now
+stepped_past s before now (inl none) = same_past s before now none
+stepped_past s before now (inr one) = still_past s (Stepped one.0 one.1) before now one.2 refl
 
 -- what is heard of any streams is heard of recorded ones
 pub recorded_so : (method : Method) (r : ℕ) (before now : List Event) → ((streams : LinkName → Stream) → IsHeard streams method r before → IsHeard streams method r now)
@@ -221,6 +226,15 @@ tells_dial_failed request m n count streams old new was same kept untold = λ s 
   more,
   untold ∙ grew,
   carried_line s streams before m n more (still_past s (DialFailed (m.links + 1) count) m.past n.past same refl) kept
+      (never_short (is_ending (way m.stage)) (is_ending (way n.stage)) m.past n.past (ap (λ st. is_ending (way st)) was)) c,
+)
+
+-- a step of the provider, or nothing
+pub tells_stepped : (request : Request) (m n : Kept) (streams : Option (LinkName → List ℕ)) (told : Option (List Traffic)) → m.stage ≡ Go → IsStepMore m.past n.past → line n ≡ line m → TellsTraffic request m n streams told told
+tells_stepped request m n streams told was same kept = λ s before more by t grew c. (
+  more,
+  grew,
+  carried_line s streams before m n more (stepped_past s m.past n.past same) kept
       (never_short (is_ending (way m.stage)) (is_ending (way n.stage)) m.past n.past (ap (λ st. is_ending (way st)) was)) c,
 )
 

@@ -1,5 +1,5 @@
 -- Contexts, by what was told of what is held.
-use Rattle.std.proofs.Common.{◌≡◌, ◌==◌, Bool, true, false, not, List, ℕ, Option, Some, None, IsSome, is_some, refl, sym, ap, ◌∙◌, if◌then◌else◌}
+use Rattle.std.proofs.Common.{◌≡◌, Bool, true, false, not, List, ℕ, Option, Some, None, IsSome, is_some, refl, sym, ap, ◌∙◌, if◌then◌else◌}
 use Rattle.std.proofs.lemmas.Bool.{false≢true}
 use Rattle.spaces.specs.declared.space.Scheme.{Scheme}
 use Rattle.spaces.specs.declared.space.Scheme.TheVariants.{Basic, Digest, Negotiate, Password}

@@ -1,7 +1,6 @@
 -- What a challenge decides, by what was told of what is held.
 use Rattle.std.proofs.Common.{◌≡◌, ℕ, Bool, true, false, List, Option, Some, None, refl, sym, ap, ◌∙◌, IfSome, IsSome, unwrap_or, option_map, option_and_then, is_some, find, if◌then◌else◌}
 use Rattle.spaces.specs.declared.roster.Request.{Request}
-use Rattle.auth_runs.specs.declared.event.Event.{Event}
 use Rattle.challenge_tokens.specs.declared.challenge.Challenge.{Challenge}
 use Rattle.challenge_offers.specs.Tokens.{token_offered}
 use Rattle.trace_rule.specs.Moves.{renewed, rejects}

@@ -21,7 +21,7 @@ use Rattle.request_machine.specs.Changed.{holding}
 use Rattle.request_machine.specs.Needs.{need_at, need_of}
 use Rattle.request_machine.specs.Told.{IsLacking}
 use Rattle.request_machine.specs.Kept.{Kept, IsLinkOpen}
-use Rattle.request_machine.specs.Turns.{next_link, IsLinkKept, opened_without, is_asking, turns_at, turns_left}
+use Rattle.request_machine.specs.Turns.{next_link, IsLinkKept, opened_without, is_asking, starts_left, turns_at, turns_left}
 use Rattle.request_machine.specs.Linked.{Way, way, goes_on, is_away, is_ending, Line, line, IsLinkedOn, IsLinked, nth_link, IsOnlyLink, AreDialsOf, of_others, IsDriven}
 use Rattle.request_machine.proofs.Dialing.{grown_none}
 use Rattle.request_machine.specs.Linked.Way.{Onward, Asking, Reading, Ending}
@@ -348,20 +348,20 @@ driven_reading m same k n link before between opened dials_before dials_between 
 
 -- TURNS
 
-some_left : (stage : Stage) (dialed : Bool) → 0 < turns_at stage dialed
-some_left (Learn t piece) dialed = omega arith
-some_left Go true = omega arith
-some_left Go false = omega arith
-some_left (Read link) dialed = omega arith
-some_left (NextNonce Proxy c) dialed = omega arith
-some_left _ dialed = omega arith
+some_left : (stage : Stage) (dialed : Bool) (starts : ℕ) → 0 < turns_at stage dialed starts
+some_left (Learn t piece) dialed starts = omega arith
+some_left Go true starts = omega arith
+some_left Go false starts = omega arith
+some_left (Read link) dialed starts = omega arith
+some_left (NextNonce Proxy c) dialed starts = omega arith
+some_left _ dialed starts = omega arith
 
 -- a machine that asks has no turn left
 pub asks_nearer : (m n : Kept) → is_asking n ≡ true → is_asking m ≡ false → turns_left n < turns_left m
 asks_nearer m n asks idle =
-    let none : turns_left n ≡ 0 = ap (λ b. if b then 0 else turns_at n.stage n.is_dialed) asks in
-    let left : turns_left m ≡ turns_at m.stage m.is_dialed = ap (λ b. if b then 0 else turns_at m.stage m.is_dialed) idle in
-    let some : 0 < turns_at m.stage m.is_dialed = some_left m.stage m.is_dialed in
+    let none : turns_left n ≡ 0 = ap (λ b. if b then 0 else turns_at n.stage n.is_dialed (starts_left n)) asks in
+    let left : turns_left m ≡ turns_at m.stage m.is_dialed (starts_left m) = ap (λ b. if b then 0 else turns_at m.stage m.is_dialed (starts_left m)) idle in
+    let some : 0 < turns_at m.stage m.is_dialed (starts_left m) = some_left m.stage m.is_dialed (starts_left m) in
     omega (arith, none, left, some)
 
 -- a machine that learns of what it holds asks
@@ -381,8 +381,8 @@ behind_ends before Socks c = refl
 -- and it is nearer
 behind_at : (m n : Kept) (t : Target) (c : Closing) → n.stage ≡ stage_behind t c → is_asking m ≡ false → m.stage ≡ NextNonce t c → turns_left n < turns_left m
 behind_at m n Proxy c now idle was =
-    let after : turns_left n ≡ 1 = ap (λ st. if is_some (need_at n st) then 0 else turns_at st n.is_dialed) now in
-    let before : turns_left m ≡ 2 = ap (λ st. if is_some (need_at m st) then 0 else turns_at st m.is_dialed) was in
+    let after : turns_left n ≡ 1 = ap (λ st. if is_some (need_at n st) then 0 else turns_at st n.is_dialed (starts_left n)) now in
+    let before : turns_left m ≡ 2 = ap (λ st. if is_some (need_at m st) then 0 else turns_at st m.is_dialed (starts_left m)) was in
     omega (arith, after, before)
 behind_at m n Server c now idle was = asks_nearer m n (ap (λ st. is_some (need_at n st)) now) idle
 behind_at m n Socks c now idle was = asks_nearer m n (ap (λ st. is_some (need_at n st)) now) idle

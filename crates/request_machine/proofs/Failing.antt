@@ -9,12 +9,12 @@ use Rattle.request_machine.specs.Carried.{ReadsInto}
 use Rattle.request_machine.specs.Failed.{link_faults, ask_faults, RoseBy, TellsLinkFaults, TellsAskFaults}
 
 -- a later count is no less
-rose_later : (sticks : Bool) (first : ℕ) (counts : List ℕ) (old new : ℕ) → old ≤ new → RoseBy sticks first counts old → RoseBy sticks first counts new
+pub rose_later : (sticks : Bool) (first : ℕ) (counts : List ℕ) (old new : ℕ) → old ≤ new → RoseBy sticks first counts old → RoseBy sticks first counts new
 rose_later sticks first [] old new later rose = omega (arith, later, rose)
 rose_later sticks first (count ∷ counts) old new later rose = let last : count ≤ old = rose.3 in (rose.0, rose.1, rose.2, omega (arith, later, last))
 
 -- one more
-rose_more : (sticks : Bool) (first : ℕ) (counts : List ℕ) (old new count : ℕ) → RoseTo sticks old new count → RoseBy sticks first counts old → RoseBy sticks first (count ∷ counts) new
+pub rose_more : (sticks : Bool) (first : ℕ) (counts : List ℕ) (old new count : ℕ) → RoseTo sticks old new count → RoseBy sticks first counts old → RoseBy sticks first (count ∷ counts) new
 rose_more sticks first counts old new count to rose = (old, rose, subst (Rose sticks old) (sym to.1) to.0, omega (arith, to.1))
 
 pub tells_link_same : (sticks : Bool) (m n : Kept) (old new : ℕ) → link_faults n.past ≡ link_faults m.past → old ≤ new → TellsLinkFaults sticks m n old new

@@ -81,7 +81,7 @@ not_taken_ties s m p same suited t =
     let event : Event = Called (Take p.number) Cancelled in
     call_closes s m (Take p.number) Cancelled (refused_by m (ByCancel p.number)) m.prompt
     (at.0, subst (λ v. Follows s m.past v event) (sym at.1) (refl, suited)) (ap (λ c. Closes (Refused c (ByCancel p.number))) t.code)
-    (refused_left s m (Take p.number) Cancelled (ByCancel p.number) t)
+    (refused_left s m (Called (Take p.number) Cancelled) (ByCancel p.number) (λ x. refl) t)
     (none_made s m (still_open s m (Taking p) same t)) (t.ended ∙ ap is_after_end same) refl (open_behind m.past event (λ q. refl) ∙ t.prompt) (λ x. refl) t
 
 -- it was lost

@@ -10,7 +10,7 @@ use Rattle.spaces.specs.Sites.{same_scheme}
 use Rattle.auth_events.specs.declared.names.TermsName.{TermsName}
 use Rattle.auth_runs.specs.declared.event.Event.{Event}
 use Rattle.trace_rule.specs.Settings.{Setting, scheme_is, for_route, or_else}
-use Rattle.trace_rule.specs.Holding.{Held, held, bound, links, has_link, context_of}
+use Rattle.trace_rule.specs.Holding.{held, bound, links, has_link, context_of}
 use Rattle.trace_rule.specs.Holding.{Context as HeldContext}
 use Rattle.trace_rule.specs.Heads.{drawn, head_text}
 use Rattle.trace_rule.specs.Moves.{Want, go, first_want, start_for, loss_for, dial_for, draw_for, head_link, has_count, identity_held, spn}

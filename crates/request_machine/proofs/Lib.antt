@@ -20,6 +20,9 @@ pub mod Needing
 pub mod Rejected
 pub mod Prompting
 pub mod Asking
+pub mod Tokens
+pub mod Refusals
+pub mod Beginning
 pub mod Following
 pub mod Decided
 pub mod Fitting
@@ -28,6 +31,7 @@ pub mod Numbers
 pub mod Renewing
 pub mod Rooms
 pub mod Driving
+pub mod Nearing
 pub mod Working
 pub mod Stepping
 pub mod Finishing
@@ -42,3 +46,5 @@ pub mod Failing
 pub mod Answering
 pub mod Turning
 pub mod Giving
+pub mod Providing
+pub mod Unasked

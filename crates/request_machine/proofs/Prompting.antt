@@ -187,18 +187,18 @@ challenged_now s m t ties =
     ∙ ap (λ b. unwrap_or (option_map (same_target t) (challenged_told b (code m.past))) false) ties.route
     ∙ ap (λ c. unwrap_or (option_map (same_target t) (challenged_told m.is_proxied c)) false) ties.code
 
--- the calls that are left where the request is refused behind a call
-pub refused_left : (s : Setting) (m : Kept) (call : Call) (reply : BookReply) (why : Why) → Ties s m
-    → closings s (Called call reply ∷ m.past) (Refused m.code why) ≡ map Some (calls_left (refused_by m why))
-refused_left s m call reply why t =
-    let whole : List Event = Called call reply ∷ m.past in
+-- the calls that are left where the request is refused behind an event that changes no note
+pub refused_left : (s : Setting) (m : Kept) (event : Event) (why : Why) → ((x : Target) → note_for s (event ∷ m.past) x ≡ note_for s m.past x) → Ties s m
+    → closings s (event ∷ m.past) (Refused m.code why) ≡ map Some (calls_left (refused_by m why))
+refused_left s m event why same t =
+    let whole : List Event = event ∷ m.past in
     let a : Option Gift = unless_told (challenged_told m.is_proxied m.code) Proxy m.noted_proxy in
     let b : Option Gift = unless_told (challenged_told m.is_proxied m.code) Server m.noted_server in
     let first : note_for s whole Proxy ≡ note_call a [] =
-    notes_by s whole Proxy (carried s m.past Proxy) (unwrap_or (option_map (same_target Proxy) (challenged_told m.is_proxied m.code)) false) (challenged_now s m Proxy t)
+    same Proxy ∙ notes_by s m.past Proxy (carried s m.past Proxy) (unwrap_or (option_map (same_target Proxy) (challenged_told m.is_proxied m.code)) false) (challenged_now s m Proxy t)
     ∙ ap (λ g. note_call (if unwrap_or (option_map (same_target Proxy) (challenged_told m.is_proxied m.code)) false then None else g) []) t.noted_proxy in
     let second : note_for s whole Server ≡ note_call b [] =
-    notes_by s whole Server (carried s m.past Server) (unwrap_or (option_map (same_target Server) (challenged_told m.is_proxied m.code)) false) (challenged_now s m Server t)
+    same Server ∙ notes_by s m.past Server (carried s m.past Server) (unwrap_or (option_map (same_target Server) (challenged_told m.is_proxied m.code)) false) (challenged_now s m Server t)
     ∙ ap (λ g. note_call (if unwrap_or (option_map (same_target Server) (challenged_told m.is_proxied m.code)) false then None else g) []) t.noted_server in
     ap (λ calls. map Some ((calls ++ note_for s whole Server) ++ CallEnd ∷ [])) first ∙ ap (λ calls. map Some ((note_call a [] ++ calls) ++ CallEnd ∷ [])) second ∙ ap (map Some) (joined a b)
 
@@ -225,7 +225,7 @@ cancelled_ties s m p same suited t =
     let event : Event = Called (Answer p.number 0 p.terms) Cancelled in
     call_closes s m (Answer p.number 0 p.terms) Cancelled (refused_by m (ByCancel p.number)) 0
     (at.0, subst (λ v. Follows s m.past v event) (sym at.1) (refl, suited)) (ap (λ c. Closes (Refused c (ByCancel p.number))) t.code)
-    (refused_left s m (Answer p.number 0 p.terms) Cancelled (ByCancel p.number) t)
+    (refused_left s m event (ByCancel p.number) (λ x. refl) t)
     (none_made s m (still_open s m (Cancelling p) same t)) (t.ended ∙ ap is_after_end same) refl (closed_by s m.past p event (λ q. refl) at.2) (λ x. refl) t
 
 same_loss_is : (a b : Loss) → same_loss a b ≡ true → a ≡ b

@@ -76,6 +76,7 @@ module _ (s : Setting) (numbers : IsNumbered s) where
     past = omega (arith, short_pasts s numbers m.past run);
     links = omega (arith, few_links s m.past run, few_if (has_link m.past), heads_bound s m.past run, t.links);
     heads = omega (arith, heads_bound s m.past run, t.heads);
+    rounds = omega (arith, rounds_bound s m.past run, t.rounds);
   }
 
   read_room : (m : Kept) → Ties s m → IsPast s m.past → HasRoomToRead m

@@ -1,6 +1,7 @@
 pub mod Kept
 pub mod OpenLinks
 pub mod Told
+pub mod Contexts
 pub mod Heads
 pub mod Making
 pub mod Chosen
@@ -19,3 +20,4 @@ pub mod Work
 pub mod Carried
 pub mod Failed
 pub mod Prompted
+pub mod Provided

@@ -32,6 +32,7 @@ pub record HasRoomToGo (m : Kept) : Type 0 where
   pub past : length m.past < 250
   pub links : m.links < 256
   pub heads : m.heads < 256
+  pub rounds : m.rounds < 256
 
 pub record HasRoomToRead (m : Kept) : Type 0 where
   pub past : length m.past < 250

@@ -7,7 +7,9 @@ use Rattle.spaces.specs.declared.site.Target.TheVariants.{Proxy}
 use Rattle.request_machine.specs.declared.stage.Stage.{Stage}
 use Rattle.request_machine.specs.declared.stage.Stage.TheVariants.{Go, Learn, Choose, Read, Ask, NextNonce, End, Spent, SpentOver}
 use Rattle.request_machine.specs.Kept.{Kept}
+use Rattle.request_machine.specs.declared.holding.Holding.{Holding}
 use Rattle.request_machine.specs.Needs.{need_at}
+use Rattle.request_machine.specs.Work.{untold}
 
 abbrev pub next_link : Kept → LinkName
 next_link m = record { request = m.number; nth = m.links + 1 }
@@ -44,13 +46,22 @@ is_going (End outcome) = true
 is_going SpentOver = true
 is_going stage = false
 
-abbrev pub turns_at : Stage → Bool → ℕ
-turns_at (Learn t piece) dialed = 6
-turns_at Go dialed = if dialed then 4 else 5
-turns_at (Read link) dialed = 3
-turns_at (NextNonce Proxy c) dialed = 2
-turns_at stage dialed = 1
+-- one, where a context is still to begin for what is held
+abbrev pub starts_of : Option Holding → ℕ
+starts_of None = 0
+starts_of (Some h) = untold h.context
+
+abbrev pub starts_left : Kept → ℕ
+starts_left m = starts_of m.proxy + starts_of m.server
+
+-- with so many contexts that are still to begin
+abbrev pub turns_at : Stage → Bool → ℕ → ℕ
+turns_at (Learn t piece) dialed starts = 6 + starts
+turns_at Go dialed starts = (if dialed then 4 else 5) + starts
+turns_at (Read link) dialed starts = 3
+turns_at (NextNonce Proxy c) dialed starts = 2
+turns_at stage dialed starts = 1
 
 -- at most so many turns are left until the machine asks
 abbrev pub turns_left : Kept → ℕ
-turns_left m = if is_asking m then 0 else turns_at m.stage m.is_dialed
+turns_left m = if is_asking m then 0 else turns_at m.stage m.is_dialed (starts_left m)

@@ -25,6 +25,7 @@ impl Machine {
     ghost use Rattle.trace_rule.specs.Traces.{suits};
     ghost use Rattle.trace_rule.specs.Telling.{prompted};
     ghost use Rattle.request_machine.specs.Driven.{insides};
+    ghost use Rattle.request_machine.specs.Provided.{steps};
     ghost use Rattle.request_machine.specs.Asking.{refused_by, IsAskedIn};
     ghost use Rattle.request_machine.specs.Turns.{is_asking};
     ghost use Rattle.auth_text.specs.Login.{Login};
@@ -122,6 +123,7 @@ impl Machine {
             × (ask_faults self.new.past ≡ ask_faults self.old.past) }
         ensures past { IsAskedIn prompt.number self.old.past self.new.past }
         ensures insides { insides self.new.past ≡ insides self.old.past }
+        ensures steps { steps self.new.past ≡ steps self.old.past }
         ensures line { line self.new ≡ record (line self.old) { given = self.new.given } }
         ensures away { IsTrue (is_away (way self.new.stage)) }
         ensures asks { is_asking self.new ≡ true }
@@ -173,6 +175,7 @@ impl Machine {
             × (ask_faults self.new.past ≡ ask_faults self.old.past) }
         ensures past { IsAskedIn prompt.number self.old.past self.new.past }
         ensures insides { insides self.new.past ≡ insides self.old.past }
+        ensures steps { steps self.new.past ≡ steps self.old.past }
         ensures line { line self.new
             ≡ record (line self.old) { space = None; given = self.new.given } }
         ensures away { IsTrue (is_away (way self.new.stage)) }

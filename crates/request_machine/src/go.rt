@@ -14,7 +14,7 @@ use crate::stage::{Piece, Stage};
 use auth_events::Drawn;
 use auth_runs::{Event, Outcome};
 use connection_binding::{DialEnd, FreeLink};
-use link_trait::{Dialer, LinkName};
+use link_trait::{Dialer, LinkName, Tokens};
 use spaces::{Origin, Request, Target};
 use std::alloc::Global;
 
@@ -34,9 +34,12 @@ impl Machine {
     ghost use Rattle.request_machine.specs.Failed.{link_faults, TellsLinkFaults};
     ghost use Rattle.request_machine.specs.Kept.{Ties};
     ghost use Rattle.request_machine.specs.Changed.{holding};
-    ghost use Rattle.request_machine.specs.Told.{IsLacking, Lacks};
+    ghost use Rattle.request_machine.specs.Told.{IsLacking};
+    ghost use Rattle.request_machine.specs.Contexts.{IsLackAt};
+    ghost use Rattle.request_machine.specs.Provided.{IsStepMore, IsTouchedBySteps, TellsSteps};
+    ghost use Rattle.request_machine.specs.Provided.{shown, step_faults, steps};
     ghost use Rattle.request_machine.specs.Heads.{bound_told};
-    ghost use Rattle.request_machine.specs.Turns.{is_asking, turns_left};
+    ghost use Rattle.request_machine.specs.Turns.{is_asking, starts_left, turns_left};
 
     /// The next link was dialed.
     #[tactic(auto, using(crate::proofs::Sending::dialed_ties))]
@@ -52,6 +55,7 @@ impl Machine {
         ensures stage { self.new.stage ≡ Stage.Go }
         ensures line { line self.new
             ≡ record (line self.old) { links = self.old.links + 1; is_dialed = true } }
+        ensures starts { starts_left self.new ≡ starts_left self.old }
         ensures ties { (s : Setting) → Ties s self.old → Ties s self.new }
     {
         let link = self.links + 1;
@@ -114,6 +118,7 @@ impl Machine {
             × (link_faults self.new.past ≡ link_faults self.old.past) }
         ensures nearer { turns_left self.new < turns_left self.old }
         ensures insides { insides self.new.past ≡ insides self.old.past }
+        ensures steps { steps self.new.past ≡ steps self.old.past }
     {
         let name = LinkName {
             request: self.number,
@@ -232,13 +237,28 @@ impl Machine {
         self.stage = Stage::Learn(target, piece);
     }
 
-    /// The request can't go on yet with what is held: the book is to tell more of it. So far no
-    /// context begins.
-    pub(crate) fn lack(&mut self, target: Target, lack: Lack)
+    /// The request can't go on yet with what is held: the book is to tell more of it, or a context
+    /// begins.
+    pub(crate) fn lack<T: Tokens>(
+        &mut self,
+        alloc: Global,
+        request: &Request,
+        tokens: &mut T,
+        target: Target,
+        lack: Lack,
+    )
+        requires room { length self.old.past < 256 }
+        requires few { self.old.rounds < 256 }
         requires stage { self.old.stage ≡ Stage.Go }
-        requires lack { Lacks lack (holding self.old target) }
-        ensures past { self.new.past ≡ self.old.past }
-        ensures asks { is_asking self.new ≡ true }
+        requires lack { IsLackAt self.old target lack }
+        ensures past { IsStepMore self.old.past self.new.past }
+        ensures provider { TellsSteps request.now T.sticks self.old self.new
+            (shown (T.told tokens.old) (T.script tokens.old) (T.faults tokens.old))
+            (shown (T.told tokens.new) (T.script tokens.new) (T.faults tokens.new)) }
+        ensures steps_quiet { T.quiet tokens.old → T.quiet tokens.new
+            × (step_faults self.new.past ≡ step_faults self.old.past) }
+        ensures touched { IsTouchedBySteps tokens.old tokens.new self.old.past self.new.past }
+        ensures nearer { turns_left self.new < turns_left self.old }
         ensures kept { line self.new ≡ line self.old }
         ensures goes { IsTrue (goes_on (way self.old.stage) (way self.new.stage)) }
         ensures free { is_waiting self.new.stage ≡ false }
@@ -247,7 +267,7 @@ impl Machine {
     {
         match lack {
             Lack::Piece(piece) => self.learn(target, piece),
-            Lack::Context => self.spend(),
+            Lack::Context => self.start(alloc, request, tokens, target),
             Lack::Ended => self.spend(),
         }
     }
@@ -269,7 +289,7 @@ impl Machine {
         ensures proxy { OnOk result (IfSome self.now.proxy IsReady) }
         ensures server { OnOk result (IfSome self.now.server IsReady) }
         ensures unbound { OnOk result (bound_told self.now ≡ None) }
-        ensures lack { IfErr result (λ found. Lacks found.1 (holding self.now found.0)) }
+        ensures lack { IfErr result (λ found. IsLackAt self.now found.0 found.1) }
     {
         if let Err(lack) = unbound_readiness(&self.proxy) {
             return Err((Target::Proxy, lack));
@@ -281,10 +301,17 @@ impl Machine {
     }
 
     /// Goes on to the next head, up to what the book or the words must tell.
-    pub(crate) fn go<D: Dialer>(&mut self, alloc: Global, request: &Request, dialer: &mut D)
+    pub(crate) fn go<D: Dialer, T: Tokens>(
+        &mut self,
+        alloc: Global,
+        request: &Request,
+        dialer: &mut D,
+        tokens: &mut T,
+    )
         requires room { length self.old.past < 250 }
         requires few_links { self.old.links < 256 }
         requires few_heads { self.old.heads < 256 }
+        requires few_rounds { self.old.rounds < 256 }
         requires stage { self.old.stage ≡ Stage.Go }
         requires linked { IsLinked self.old }
         requires links { IsOnlyLink (line self.old) (D.opened dialer.old) }
@@ -308,9 +335,15 @@ impl Machine {
             × (link_faults self.new.past ≡ link_faults self.old.past) }
         ensures nearer { turns_left self.new < turns_left self.old }
         ensures insides { insides self.new.past ≡ insides self.old.past }
+        ensures provider { TellsSteps request.now T.sticks self.old self.new
+            (shown (T.told tokens.old) (T.script tokens.old) (T.faults tokens.old))
+            (shown (T.told tokens.new) (T.script tokens.new) (T.faults tokens.new)) }
+        ensures steps_quiet { T.quiet tokens.old → T.quiet tokens.new
+            × (step_faults self.new.past ≡ step_faults self.old.past) }
+        ensures touched { IsTouchedBySteps tokens.old tokens.new self.old.past self.new.past }
     {
         if let Err((target, lack)) = self.is_ready() {
-            self.lack(target, lack);
+            self.lack(alloc, request, tokens, target, lack);
             return;
         }
         if !self.is_dialed {

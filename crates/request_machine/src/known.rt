@@ -8,6 +8,7 @@ ghost use Rattle.request_machine.specs.Told.{scheme_told, gift_told, bare, IsRea
 ghost use Rattle.request_machine.specs.Told.{Lacks, nonce_told, with_space, with_identity};
 ghost use Rattle.request_machine.specs.Told.{with_named};
 ghost use Rattle.request_machine.specs.Told.{link_told, headed_told, carried_on_told};
+ghost use Rattle.request_machine.specs.Contexts.{with_context};
 
 use crate::holding::{Context, Holding, NamedTerms, Token};
 use crate::stage::Piece;
@@ -252,6 +253,27 @@ pub(crate) fn with_named(held: Option<Holding>, named: NamedTerms) -> Option<Hol
         None => None,
         Some(held) => Some(Holding {
             named: Some(named),
+            ..held
+        }),
+    }
+}
+
+/// What is held, with a context that goes on behind the token, over the link that it has bound.
+pub(crate) fn with_context(
+    held: Option<Holding>,
+    live: negotiate_handler::Context,
+) -> Option<Holding>
+    ensures { result ≡ option_map (with_context live) held }
+{
+    let link = link_told(&held);
+    match held {
+        None => None,
+        Some(held) => Some(Holding {
+            context: Some(Context {
+                token: Token::Live(live),
+                is_sent: false,
+                link,
+            }),
             ..held
         }),
     }

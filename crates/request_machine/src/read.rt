@@ -37,6 +37,7 @@ impl Machine {
     ghost use Rattle.request_machine.specs.Reads.{IsFitRead};
     ghost use Rattle.link_trait.specs.declared.dialer.Dial.{Dial};
     ghost use Rattle.request_machine.specs.Driven.{insides};
+    ghost use Rattle.request_machine.specs.Provided.{steps};
     ghost use Rattle.request_machine.specs.Kept.{Ties, IsTied, IsLinkOpen};
     ghost use Rattle.request_machine.specs.Turns.{opened_without, turns_left};
     ghost use Rattle.request_machine.specs.Linked.{line, way, is_away, IsLinked, IsOnlyLink};
@@ -102,6 +103,7 @@ impl Machine {
             × (link_faults self.new.past ≡ link_faults self.old.past) }
         ensures nearer { turns_left self.new < turns_left self.old }
         ensures insides { insides self.new.past ≡ insides self.old.past }
+        ensures steps { steps self.new.past ≡ steps self.old.past }
     {
         match self.read_link(alloc, dialer, request.method) {
             ReadEnd::Whole(reply) => self.replied(alloc, request, link, reply),
@@ -185,6 +187,7 @@ impl Machine {
         ensures past { (self.new.past ≡ Event.Replied link reply ∷ self.old.past)
             ⊎ (self.new.past ≡ self.old.past) }
         ensures insides { insides self.new.past ≡ insides self.old.past }
+        ensures steps { steps self.new.past ≡ steps self.old.past }
         ensures kept { line self.new ≡ line self.old }
         ensures away { IsTrue (is_away (way self.new.stage)) }
         ensures left { turns_left self.new < 3 }

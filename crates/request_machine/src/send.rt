@@ -26,6 +26,7 @@ impl Machine {
     ghost use Rattle.link_trait.specs.declared.dialer.Dial.{Dial};
     ghost use Rattle.request_machine.specs.Kept.{Ties, IsLinkOpen};
     ghost use Rattle.request_machine.specs.Driven.{insides};
+    ghost use Rattle.request_machine.specs.Provided.{steps};
     ghost use Rattle.link_trait.specs.Links.{Sends};
     ghost use Rattle.connection_binding.specs.Ends.{wrote_by, IsSendFault};
     ghost use Rattle.request_machine.specs.Carried.{TellsTraffic};
@@ -196,6 +197,7 @@ impl Machine {
             × (link_faults self.new.past ≡ link_faults self.old.past) }
         ensures nearer { turns_left self.new < turns_left self.old }
         ensures insides { insides self.new.past ≡ insides self.old.past }
+        ensures steps { steps self.new.past ≡ steps self.old.past }
     {
         match self.next_head(alloc, request) {
             Err(NoMemory) => self.spend(),

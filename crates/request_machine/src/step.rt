@@ -25,6 +25,9 @@ impl Machine {
     ghost use Rattle.request_machine.specs.Failed.{link_faults, ask_faults, TellsLinkFaults};
     ghost use Rattle.request_machine.specs.Failed.{TellsAskFaults};
     ghost use Rattle.request_machine.specs.Prompted.{IsPrompted};
+    ghost use Rattle.request_machine.specs.Provided.{IsAskedSoFar, IsTouchedBySteps};
+    ghost use Rattle.request_machine.specs.Provided.{TellsStepFaults, step_faults};
+    ghost use Rattle.link_trait.specs.declared.tokens.TokenCall.{TokenCall};
     ghost use Rattle.request_machine.specs.Kept.{Ties, IsSettingOf};
     ghost use Rattle.request_machine.specs.Needs.{need_at, IsWantedAt};
     ghost use Rattle.request_machine.specs.Rooms.{HasSettingIn};
@@ -71,7 +74,19 @@ impl Machine {
             → (is_unspent self.new.stage ≡ false) ⊎ (self.new.stage ≡ Stage.Over) }
         ensures spent { is_unspent self.old.stage ≡ false → self.new.stage ≡ Stage.Over
             → is_spent self.new.past ≡ true }
-        ensures tokens { gear.new.tokens ≡ gear.old.tokens }
+        ensures asked { (s : Setting) (before : Option (List TokenCall)) (calls : List TokenCall)
+            → IsSettingOf s roster.now self.old.number self.old.seed → Ties s self.old
+            → T.told gear.old.tokens ≡ grown before calls
+            → IsAskedSoFar s (is_ending (way self.old.stage)) self.old.past calls
+            → (more : List TokenCall) × (T.told gear.new.tokens ≡ grown before more)
+            × IsAskedSoFar s (is_ending (way self.new.stage)) self.new.past more }
+        ensures script { T.script gear.new.tokens ≡ T.script gear.old.tokens }
+        ensures step_faults { TellsStepFaults T.sticks self.old self.new
+            (T.faults gear.old.tokens) (T.faults gear.new.tokens) }
+        ensures step_quiet { T.quiet gear.old.tokens → T.quiet gear.new.tokens
+            × (step_faults self.new.past ≡ step_faults self.old.past) }
+        ensures touched { IsTouchedBySteps gear.old.tokens gear.new.tokens
+            self.old.past self.new.past }
         ensures insides { insides self.new.past ≡ insides self.old.past }
         ensures traffic { (s : Setting) (before : Option (List Traffic)) (more : List Traffic)
             → IsSettingOf s roster.now self.old.number self.old.seed → Ties s self.old
@@ -101,7 +116,7 @@ impl Machine {
             if let Some(need) = self.next_need(&mut gear.dialer) {
                 return need;
             }
-            self.turn(alloc, request, &mut gear.dialer, prompter);
+            self.turn(alloc, request, &mut gear.dialer, &mut gear.tokens, prompter);
         }
     }
 }

@@ -21,7 +21,7 @@ impl Machine {
     ghost use Rattle.request_machine.specs.Work.{is_answer, is_unspent, stage_told, work_left};
 
     /// What is held for the target; then nothing is.
-    fn take(&mut self, target: Target) -> Option<Holding>
+    pub(crate) fn take(&mut self, target: Target) -> Option<Holding>
         ensures value { result ≡ holding self.old target }
         ensures rest { self.new ≡ put_held target None self.old }
     {

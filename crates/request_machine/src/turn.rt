@@ -5,7 +5,7 @@ ghost use Rattle.std.specs.Prelude.{◌≡◌, None};
 use crate::machine::Machine;
 use crate::need::Need;
 use crate::stage::{Piece, Stage};
-use link_trait::{Dialer, Prompter};
+use link_trait::{Dialer, Prompter, Tokens};
 use spaces::{Request, Target};
 use std::alloc::Global;
 
@@ -25,6 +25,8 @@ impl Machine {
     ghost use Rattle.request_machine.specs.Failed.{link_faults, ask_faults, TellsLinkFaults};
     ghost use Rattle.request_machine.specs.Failed.{TellsAskFaults};
     ghost use Rattle.request_machine.specs.Prompted.{TellsPrompts};
+    ghost use Rattle.request_machine.specs.Provided.{IsTouchedBySteps, TellsSteps, shown};
+    ghost use Rattle.request_machine.specs.Provided.{step_faults};
     ghost use Rattle.request_machine.specs.Kept.{Ties};
     ghost use Rattle.request_machine.specs.Needs.{need_at, IsWantedAt};
     ghost use Rattle.request_machine.specs.Rooms.{HasSettingOf};
@@ -34,11 +36,12 @@ impl Machine {
     ghost use Rattle.request_machine.specs.Linked.{IsOnlyLink, AreDialsOf, IsDriven};
 
     /// Does what comes next, where the machine goes on by itself.
-    pub(crate) fn turn<D: Dialer, P: Prompter>(
+    pub(crate) fn turn<D: Dialer, T: Tokens, P: Prompter>(
         &mut self,
         alloc: Global,
         request: &Request,
         dialer: &mut D,
+        tokens: &mut T,
         prompter: &mut P,
     )
         requires linked { IsLinked self.old }
@@ -59,6 +62,12 @@ impl Machine {
         ensures driven { IsDriven self.old self.new
             (D.opened dialer.old) (D.opened dialer.new) (D.dials dialer.new) }
         ensures insides { insides self.new.past ≡ insides self.old.past }
+        ensures provider { TellsSteps request.now T.sticks self.old self.new
+            (shown (T.told tokens.old) (T.script tokens.old) (T.faults tokens.old))
+            (shown (T.told tokens.new) (T.script tokens.new) (T.faults tokens.new)) }
+        ensures steps_quiet { T.quiet tokens.old → T.quiet tokens.new
+            × (step_faults self.new.past ≡ step_faults self.old.past) }
+        ensures touched { IsTouchedBySteps tokens.old tokens.new self.old.past self.new.past }
         ensures traffic { TellsTraffic request.now self.old self.new (D.streams dialer.old)
             (D.traffic dialer.old) (D.traffic dialer.new) }
         ensures streams { D.streams dialer.new ≡ D.streams dialer.old }
@@ -76,7 +85,7 @@ impl Machine {
         ensures nearer { turns_left self.new < turns_left self.old }
     {
         match self.stage {
-            Stage::Go => self.go(alloc, request, dialer),
+            Stage::Go => self.go(alloc, request, dialer, tokens),
             Stage::Choose(target) => self.choose(alloc, request, target),
             Stage::Read(link) => self.read(alloc, request, dialer, link),
             Stage::Ask(prompt, ordinal) => self.ask_next(prompter, prompt, ordinal),
@@ -89,7 +98,7 @@ impl Machine {
     }
 
     /// Nothing is held of which more is to be told, so the way to the next head goes on.
-    #[tactic(auto, using(crate::proofs::Choosing::resume_ties))]
+    #[tactic(auto, using(crate::proofs::Choosing::resume_ties, crate::proofs::Nearing::resumed_nearer))]
     fn resume(&mut self, target: Target, piece: Piece)
         requires stage { self.old.stage ≡ Stage.Learn target piece }
         requires idle { is_asking self.old ≡ false }

@@ -3,6 +3,7 @@ use Rattle.std.proofs.Common.{◌≡◌, ◌<◌, ◌≤◌, refl, sym, ap, ◌�
 use Rattle.request_machine.specs.Failed.{RoseBy, ask_faults, link_faults}
 use Rattle.request_machine.specs.Linked.{is_ending, way}
 use Rattle.request_machine.specs.Work.{work_left}
+use Rattle.request_machine.proofs.Unasked.{untouched}
 use Rattle.auth_controller.specs.Driving.{Peers, Seen, peers, seen}
 use Rattle.auth_controller.proofs.Answered.{served_setting_in}
 use Rattle.auth_controller.proofs.Driving.{IsStepped, StepsPrompts, StepsTraffic, answer_on, asks_given, links_given, still_quiet, step_on, step_serving}
@@ -113,7 +114,8 @@ loop-book-preserved g c =
       c.answer.ensures.roster ∙ I.0,
       c.answer.ensures.given.as_it.number ∙ (e.number ∙ I.1),
       c.answer.ensures.given.as_it.seed ∙ (e.seed ∙ I.2),
-      e.tokens ∙ I.3,
+      untouched c.args.roster.now c.loop-book.machine c.step-need.new.self c.loop-book.gear.tokens c.step-need.new.gear.tokens
+          (served_setting_in c.args.roster.now (g.B.Controller.told book) (g.B.Controller.told c.loop-book.book) c.args.words.now c.loop-book.words I.10.request c.loop-book.machine I.10.driving.serving) e.ties e.touched ∙ I.3,
       e.streams ∙ I.4,
       e.answers ∙ I.5,
       subst (λ counts. RoseBy g.D.Dialer.sticks (g.D.Dialer.faults c.args.gear.now.dialer) counts (g.D.Dialer.faults c.step-need.new.gear.dialer)) (sym links_same) (e.faults (g.D.Dialer.faults c.args.gear.now.dialer) I.6),
@@ -136,7 +138,11 @@ pub returns-clause-seed : goal.returns-clause-seed
 returns-clause-seed g c = c.step-need.ensures.seed ∙ c.loop-book.invariant.2
 
 pub returns-clause-tokens : goal.returns-clause-tokens
-returns-clause-tokens g c = c.step-need.ensures.tokens ∙ c.loop-book.invariant.3
+returns-clause-tokens g c =
+    let I = c.loop-book.invariant in
+    untouched c.args.roster.now c.loop-book.machine c.step-need.new.self c.loop-book.gear.tokens c.step-need.new.gear.tokens
+    (served_setting_in c.args.roster.now (g.B.Controller.told c.args.book.now) (g.B.Controller.told c.loop-book.book) c.args.words.now c.loop-book.words I.10.request c.loop-book.machine I.10.driving.serving)
+    c.step-need.ensures.ties c.step-need.ensures.touched ∙ I.3
 
 pub returns-clause-streams : goal.returns-clause-streams
 returns-clause-streams g c = c.step-need.ensures.streams ∙ c.loop-book.invariant.4

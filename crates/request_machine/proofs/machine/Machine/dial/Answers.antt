@@ -10,6 +10,9 @@ use Rattle.request_machine.proofs.Answering.{unprompted_dialed, unprompted_event
 use Rattle.request_machine.proofs.Carrying.{tells_dialed, tells_dial_failed, tells_same}
 use Rattle.request_machine.proofs.Failing.{tells_link_same}
 use Rattle.request_machine.proofs.Dialing.{one_dial}
+use Rattle.request_machine.specs.Linked.{Line}
+use Rattle.request_machine.specs.Turns.{starts_left}
+use Rattle.request_machine.proofs.Nearing.{dialed_nearer}
 use Rattle.request_machine.proofs.Driving.{driven_given, driven_undialed}
 use Rattle.request_machine.proofs.machine.Machine.dial.Goals as goal
 
@@ -79,3 +82,8 @@ returns-in-NoMemory-clause-traffic g c =
 pub returns-in-NoMemory-clause-faults : goal.returns-in-NoMemory-clause-faults
 returns-in-NoMemory-clause-faults g c =
     tells_link_same g.D.Dialer.sticks c.args.self.now c.spend.new.self _ _ (ap link_faults c.spend.ensures.past) c.in-NoMemory.ensures.later
+
+pub returns-in-Link-clause-nearer : goal.returns-in-Link-clause-nearer
+returns-in-Link-clause-nearer g c =
+    dialed_nearer c.args.self.now c.dialed.new.self c.requires.stage c.requires.undialed c.dialed.ensures.stage (ap (λ (l : Line). l.is_dialed) c.dialed.ensures.line)
+    (c.dialed.ensures.starts ∙ ap starts_left c.put_link.ensures)

@@ -9,6 +9,7 @@ use Rattle.request_machine.specs.Prompted.{TellsPrompts}
 use Rattle.request_machine.specs.Linked.{IsDriven}
 use Rattle.request_machine.specs.Work.{work_left}
 use Rattle.request_machine.proofs.Stepping.{IsUnderWay}
+use Rattle.request_machine.specs.Provided.{IsTouchedBySteps, TellsSteps, shown, step_faults}
 use Rattle.request_machine.proofs.machine.Machine.step.Given as goal
 
 abbrev pub invariant-loop-need : goal.invariant-loop-need
@@ -16,7 +17,10 @@ invariant-loop-need g l = record {
   driven : IsDriven l.fn.self l.self (g.D.Dialer.opened l.fn.gear.dialer) (g.D.Dialer.opened l.gear.dialer) (g.D.Dialer.dials l.gear.dialer);
   ties : (s : Setting) → s.request ≡ l.request → Ties s l.fn.self → Ties s l.self;
   way : IsUnderWay l.fn.self l.self;
-  tokens : l.gear.tokens ≡ l.fn.gear.tokens;
+  provider : TellsSteps l.request g.T.Tokens.sticks l.fn.self l.self (shown (g.T.Tokens.told l.fn.gear.tokens) (g.T.Tokens.script l.fn.gear.tokens) (g.T.Tokens.faults l.fn.gear.tokens))
+      (shown (g.T.Tokens.told l.gear.tokens) (g.T.Tokens.script l.gear.tokens) (g.T.Tokens.faults l.gear.tokens));
+  steps_quiet : g.T.Tokens.quiet l.fn.gear.tokens → g.T.Tokens.quiet l.gear.tokens × (step_faults l.self.past ≡ step_faults l.fn.self.past);
+  touched : IsTouchedBySteps l.fn.gear.tokens l.gear.tokens l.fn.self.past l.self.past;
   less : work_left l.self ≤ work_left l.fn.self;
   insides : insides l.self.past ≡ insides l.fn.self.past;
   traffic : TellsTraffic l.request l.fn.self l.self (g.D.Dialer.streams l.fn.gear.dialer) (g.D.Dialer.traffic l.fn.gear.dialer) (g.D.Dialer.traffic l.gear.dialer);

@@ -1,5 +1,5 @@
 use Rattle.request_machine.proofs.Working.{pushed_less, less_left}
-use Rattle.std.proofs.Common.{sym, ap, ◌∙◌, refl}
+use Rattle.std.proofs.Common.{inl, sym, ap, ◌∙◌, refl}
 use Rattle.link_trait.specs.Told.{grown}
 use Rattle.trace_rule.specs.Telling.{dials}
 use Rattle.request_machine.specs.Kept.{Kept}
@@ -13,6 +13,10 @@ use Rattle.request_machine.proofs.Sent.{tells_finished, tells_spent_over}
 use Rattle.request_machine.proofs.Driving.{driven_same, driven_asked}
 use Rattle.request_machine.proofs.Rooms.{tied_go, tied_read, tied_past, setting_tied}
 use Rattle.request_machine.proofs.NextNonces.{answer_there}
+use Rattle.request_machine.specs.Linked.{way, is_ending}
+use Rattle.request_machine.specs.Provided.{steps}
+use Rattle.request_machine.proofs.Carrying.{goes_ends}
+use Rattle.request_machine.proofs.Providing.{onward_ends, same_step_faults, tells_no_step}
 use Rattle.request_machine.proofs.machine.Machine.turn.Goals as goal
 
 pub returns-in-Ask-clause-dials : goal.returns-in-Ask-clause-dials
@@ -46,6 +50,9 @@ go-requires-clause-few_links g c = (tied_go c.args.request.now c.args.self.now c
 
 pub go-requires-clause-few_heads : goal.go-requires-clause-few_heads
 go-requires-clause-few_heads g c = (tied_go c.args.request.now c.args.self.now c.requires.tied (sym (ap (λ (v : Kept). v.stage) c.self.view_is) ∙ c.in-Go.is)).heads
+
+pub go-requires-clause-few_rounds : goal.go-requires-clause-few_rounds
+go-requires-clause-few_rounds g c = (tied_go c.args.request.now c.args.self.now c.requires.tied (sym (ap (λ (v : Kept). v.stage) c.self.view_is) ∙ c.in-Go.is)).rounds
 
 pub read-requires-clause-room : goal.read-requires-clause-room
 read-requires-clause-room g c = (tied_read c.args.request.now c.args.self.now c.in-Read.link c.requires.tied (sym (ap (λ (v : Kept). v.stage) c.self.view_is) ∙ c.in-Read.is)).past
@@ -199,3 +206,80 @@ returns-in-Ask-clause-quiet g c = λ quiet. (quiet, ap link_faults c.ask_next.en
 
 pub returns-in-Ask-clause-prompts : goal.returns-in-Ask-clause-prompts
 returns-in-Ask-clause-prompts g c = λ s before by t it. c.ask_next.ensures.prompts s before t it
+
+pub returns-in-Choose-clause-provider : goal.returns-in-Choose-clause-provider
+returns-in-Choose-clause-provider g c =
+    tells_no_step c.args.request.now g.T.Tokens.sticks c.args.self.now c.choose.new.self _ (ap steps c.choose.ensures.past)
+    (goes_ends (way c.args.self.now.stage) (way c.choose.new.self.stage) c.choose.ensures.goes)
+
+pub returns-in-Choose-clause-steps_quiet : goal.returns-in-Choose-clause-steps_quiet
+returns-in-Choose-clause-steps_quiet g c = λ quiet. (quiet, same_step_faults c.args.self.now.past c.choose.new.self.past (ap steps c.choose.ensures.past))
+
+pub returns-in-Choose-clause-touched : goal.returns-in-Choose-clause-touched
+returns-in-Choose-clause-touched g c = inl (refl, ap steps c.choose.ensures.past)
+
+pub returns-in-NextNonce-clause-provider : goal.returns-in-NextNonce-clause-provider
+returns-in-NextNonce-clause-provider g c =
+    tells_no_step c.args.request.now g.T.Tokens.sticks c.args.self.now c.renew_next.new.self _ (ap steps c.renew_next.ensures.past)
+    (goes_ends (way c.args.self.now.stage) (way c.renew_next.new.self.stage) c.renew_next.ensures.goes)
+
+pub returns-in-NextNonce-clause-steps_quiet : goal.returns-in-NextNonce-clause-steps_quiet
+returns-in-NextNonce-clause-steps_quiet g c = λ quiet. (quiet, same_step_faults c.args.self.now.past c.renew_next.new.self.past (ap steps c.renew_next.ensures.past))
+
+pub returns-in-NextNonce-clause-touched : goal.returns-in-NextNonce-clause-touched
+returns-in-NextNonce-clause-touched g c = inl (refl, ap steps c.renew_next.ensures.past)
+
+pub returns-in-Learn-clause-provider : goal.returns-in-Learn-clause-provider
+returns-in-Learn-clause-provider g c =
+    tells_no_step c.args.request.now g.T.Tokens.sticks c.args.self.now c.resume.new.self _ (ap steps c.resume.ensures.past)
+    (goes_ends (way c.args.self.now.stage) (way c.resume.new.self.stage) c.resume.ensures.goes)
+
+pub returns-in-Learn-clause-steps_quiet : goal.returns-in-Learn-clause-steps_quiet
+returns-in-Learn-clause-steps_quiet g c = λ quiet. (quiet, same_step_faults c.args.self.now.past c.resume.new.self.past (ap steps c.resume.ensures.past))
+
+pub returns-in-Learn-clause-touched : goal.returns-in-Learn-clause-touched
+returns-in-Learn-clause-touched g c = inl (refl, ap steps c.resume.ensures.past)
+
+pub returns-in-End-clause-provider : goal.returns-in-End-clause-provider
+returns-in-End-clause-provider g c =
+    tells_no_step c.args.request.now g.T.Tokens.sticks c.args.self.now c.finished.new.self _ (ap steps c.finished.ensures.past)
+    (goes_ends (way c.args.self.now.stage) (way c.finished.new.self.stage) c.finished.ensures.goes)
+
+pub returns-in-End-clause-steps_quiet : goal.returns-in-End-clause-steps_quiet
+returns-in-End-clause-steps_quiet g c = λ quiet. (quiet, same_step_faults c.args.self.now.past c.finished.new.self.past (ap steps c.finished.ensures.past))
+
+pub returns-in-End-clause-touched : goal.returns-in-End-clause-touched
+returns-in-End-clause-touched g c = inl (refl, ap steps c.finished.ensures.past)
+
+pub returns-in-SpentOver-clause-provider : goal.returns-in-SpentOver-clause-provider
+returns-in-SpentOver-clause-provider g c =
+    tells_no_step c.args.request.now g.T.Tokens.sticks c.args.self.now c.spent_over.new.self _ (ap steps c.spent_over.ensures.past)
+    (goes_ends (way c.args.self.now.stage) (way c.spent_over.new.self.stage) c.spent_over.ensures.goes)
+
+pub returns-in-SpentOver-clause-steps_quiet : goal.returns-in-SpentOver-clause-steps_quiet
+returns-in-SpentOver-clause-steps_quiet g c = λ quiet. (quiet, same_step_faults c.args.self.now.past c.spent_over.new.self.past (ap steps c.spent_over.ensures.past))
+
+pub returns-in-SpentOver-clause-touched : goal.returns-in-SpentOver-clause-touched
+returns-in-SpentOver-clause-touched g c = inl (refl, ap steps c.spent_over.ensures.past)
+
+pub returns-in-Ask-clause-provider : goal.returns-in-Ask-clause-provider
+returns-in-Ask-clause-provider g c =
+    tells_no_step c.args.request.now g.T.Tokens.sticks c.args.self.now c.ask_next.new.self _ c.ask_next.ensures.steps
+    (onward_ends c.args.self.now c.ask_next.new.self (ap (λ st. is_ending (way st)) (sym (ap (λ (v : Kept). v.stage) c.self.view_is) ∙ c.in-Ask.is)))
+
+pub returns-in-Ask-clause-steps_quiet : goal.returns-in-Ask-clause-steps_quiet
+returns-in-Ask-clause-steps_quiet g c = λ quiet. (quiet, same_step_faults c.args.self.now.past c.ask_next.new.self.past c.ask_next.ensures.steps)
+
+pub returns-in-Ask-clause-touched : goal.returns-in-Ask-clause-touched
+returns-in-Ask-clause-touched g c = inl (refl, c.ask_next.ensures.steps)
+
+pub returns-in-Read-clause-provider : goal.returns-in-Read-clause-provider
+returns-in-Read-clause-provider g c =
+    tells_no_step c.args.request.now g.T.Tokens.sticks c.args.self.now c.read.new.self _ c.read.ensures.steps
+    (onward_ends c.args.self.now c.read.new.self (ap (λ st. is_ending (way st)) (sym (ap (λ (v : Kept). v.stage) c.self.view_is) ∙ c.in-Read.is)))
+
+pub returns-in-Read-clause-steps_quiet : goal.returns-in-Read-clause-steps_quiet
+returns-in-Read-clause-steps_quiet g c = λ quiet. (quiet, same_step_faults c.args.self.now.past c.read.new.self.past c.read.ensures.steps)
+
+pub returns-in-Read-clause-touched : goal.returns-in-Read-clause-touched
+returns-in-Read-clause-touched g c = inl (refl, c.read.ensures.steps)
