@@ -1,0 +1,13 @@
+//! What holds of the reader of reports: each line that is written for a thing is read as that
+//! thing. Each law is the contract of a function that changes nothing and answers nothing.
+#![tactic(auto)]
+
+mod entry_holds;
+mod event_holds;
+mod holds;
+mod lines;
+
+pub use lines::{
+    default_line_reads_back, entry_line_reads_back, event_line_reads_back, request_line_reads_back,
+    seed_line_reads_back, space_line_reads_back, terms_line_reads_back, text_line_reads_back,
+};
