@@ -17,6 +17,7 @@ fn run(kernel: &str, times: u32) -> Option<u32> {
         "challenges" => Some(challenges::run(400, times)),
         "challenges-quarter" => Some(challenges::run(100, times)),
         "replies" => Some(replies::run(times)),
+        "long-replies" => Some(replies::run_long(1023, times)),
         #[cfg(feature = "hashes")]
         "respond-md5" => Some(respond::run_md5(times)),
         #[cfg(feature = "hashes")]

@@ -1,4 +1,4 @@
-//! One reply with a chunked body, read again and again from one text.
+//! One reply with a chunked body, read again and again from one text, whole.
 
 use std::hint::black_box;
 
@@ -141,6 +141,21 @@ fn reply(text: &[u8]) -> Option<Reply> {
 /// Keeps the bytes that it is fed, as the kernel's reader does, and reads them so often.
 pub fn run(times: u32) -> u32 {
     let text = [HEAD, &CHUNK.repeat(CHUNKS), b"0\r\n\r\n"].concat();
+    let mut whole = 0;
+    for _ in 0..times {
+        let fed = black_box(&text).to_vec();
+        if black_box(reply(&fed)).is_some() {
+            whole += 1;
+        }
+    }
+    whole
+}
+
+/// Reads a reply of so many chunks of 1,024 bytes and a shorter one so often.
+pub fn run_long(chunks: usize, times: u32) -> u32 {
+    let chunk = |line: &[u8], size: usize| [line, &b"a".repeat(size), b"\r\n"].concat();
+    let front = chunk(b"3F9\r\n", 1017).repeat(chunks);
+    let text = [HEAD, &front, &chunk(b"3F4\r\n", 1012), b"0\r\n\r\n"].concat();
     let mut whole = 0;
     for _ in 0..times {
         let fed = black_box(&text).to_vec();

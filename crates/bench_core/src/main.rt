@@ -46,6 +46,9 @@ fn run<R: AllocGlobal + Threads + Wait + Sync>(rt: &R, kernel: Kernel, times: u3
         Kernel::Prompts => prompts::run(alloc, 256, times),
         Kernel::PromptsQuarter => prompts::run(alloc, 128, times),
         Kernel::Replies => replies::run(alloc, times),
+        Kernel::LongReplies { chunks, piece } => {
+            replies::run_long(alloc, chunks, piece.max(1), times)
+        }
         Kernel::Respond(algorithm) => respond::run(alloc, algorithm, times),
         Kernel::Turns(threads) => turns::run(rt, alloc, threads, times),
         Kernel::Draws(crew) => draws::run(rt, alloc, crew, times),

@@ -1,6 +1,6 @@
-//! One reply with a chunked body, fed whole to a new reader again and again.
+//! One reply with a chunked body, fed to a new reader again and again, whole or in pieces.
 
-ghost use Rattle.std.specs.Prelude.{◌≡◌, if◌then◌else◌, false, IfOk};
+ghost use Rattle.std.specs.Prelude.{◌≡◌, ◌<◌, if◌then◌else◌, false, IfOk};
 ghost use Rattle.spaces.specs.declared.roster.Method.TheVariants.{Get};
 ghost use Rattle.wire_head.specs.Replies.{reply};
 ghost use Rattle.bench_core.specs.Replies.{is_whole};
@@ -19,6 +19,9 @@ const CHUNK: &[u8] =
 
 const CHUNKS: u32 = 700;
 
+/// A piece that has all of it.
+pub const WHOLE: usize = 2_097_152;
+
 /// The reply's text.
 fn text(alloc: Global) -> Result<Bytes, NoMemory> {
     let mut text = Bytes::from_slice(alloc, HEAD)?;
@@ -29,35 +32,68 @@ fn text(alloc: Global) -> Result<Bytes, NoMemory> {
     Ok(text)
 }
 
-/// Tells whether the text begins with a whole reply, read by a new reader.
-fn is_whole_reply(alloc: Global, text: &[u8]) -> Result<bool, NoMemory>
+/// Tells whether the text begins with a whole reply, fed to a new reader in pieces of a size.
+fn is_whole_reply(alloc: Global, text: &[u8], size: usize) -> Result<bool, NoMemory>
+    requires { 0 < size }
     ensures { IfOk result (λ is. is ≡ is_whole (reply Get text.now false)) }
 {
     let mut reader = ReplyReader::new(alloc, Method::Get)?;
-    match reader.feed(text).at {
-        At::Whole(_) => Ok(true),
-        At::More => Ok(false),
-        At::Fault(_) => Ok(false),
-        At::NoMemory => Err(NoMemory),
+    for piece in text.chunks(size) {
+        match reader.feed(piece).at {
+            At::More => {}
+            At::Whole(_) => return Ok(true),
+            At::Fault(_) => return Ok(false),
+            At::NoMemory => return Err(NoMemory),
+        }
     }
+    Ok(false)
 }
 
 /// Reads the text so often, and tells how many of the readings found a whole reply.
-fn whole_replies(alloc: Global, text: &[u8], times: u32) -> Result<u32, NoMemory>
+fn whole_replies(alloc: Global, text: &[u8], size: usize, times: u32) -> Result<u32, NoMemory>
+    requires { 0 < size }
     ensures { IfOk result (λ whole. whole
         ≡ (if is_whole (reply Get text.now false) then times else 0)) }
 {
     let mut whole = 0;
     for _reading in 0..times {
-        if is_whole_reply(alloc, text)? {
+        if is_whole_reply(alloc, text, size)? {
             whole += 1;
         }
     }
     Ok(whole)
 }
 
-/// Reads a reply so often. Each reading finds it whole.
+/// Reads a reply of 60,000 bytes so often, whole. Each reading finds it whole.
 pub fn run(alloc: Global, times: u32) -> Result<u32, NoMemory> {
     let text = text(alloc)?;
-    whole_replies(alloc, text.as_slice(), times)
+    whole_replies(alloc, text.as_slice(), WHOLE, times)
+}
+
+/// Adds a chunk whose size line is given.
+fn push_chunk(text: &mut Bytes, line: &[u8], size: u32) -> Result<(), NoMemory> {
+    text.extend_from_slice(line)?;
+    for _ in 0..size {
+        text.extend_from_slice(b"a")?;
+    }
+    text.extend_from_slice(b"\r\n")
+}
+
+/// A reply with so many chunks of 1,024 bytes, and what brings its body to 1,024 bytes more.
+fn long_text(alloc: Global, chunks: u32) -> Result<Bytes, NoMemory> {
+    let mut text = Bytes::from_slice(alloc, HEAD)?;
+    for _ in 0..chunks {
+        push_chunk(&mut text, b"3F9\r\n", 1017)?;
+    }
+    push_chunk(&mut text, b"3F4\r\n", 1012)?;
+    text.extend_from_slice(b"0\r\n\r\n")?;
+    Ok(text)
+}
+
+/// Reads a reply of so many chunks so often, in pieces of a size. Each reading finds it whole.
+pub fn run_long(alloc: Global, chunks: u32, size: usize, times: u32) -> Result<u32, NoMemory>
+    requires { 0 < size }
+{
+    let text = long_text(alloc, chunks)?;
+    whole_replies(alloc, text.as_slice(), size, times)
 }

@@ -1,5 +1,6 @@
 //! The names of the kernels, as the first word gives them.
 
+use crate::replies::WHOLE;
 use spaces::Algorithm;
 
 /// How many threads share the work.
@@ -29,11 +30,19 @@ pub enum Kernel {
     Respond(Algorithm),
     /// Readings of one reply of 60,000 bytes, fed whole.
     Replies,
+    /// Readings of one reply with so many chunks of 1,024 bytes and a shorter one, fed in pieces of
+    /// so many bytes.
+    LongReplies { chunks: u32, piece: usize },
     /// Turns on one list by this many threads.
     Turns(u32),
     /// Draws of one nonce's counts by this many threads.
     Draws(Crew),
 }
+
+/// A long reply has a body of 1,048,576 bytes, with its framing; half of one has 524,288.
+const LONG: u32 = 1023;
+
+const HALF: u32 = 511;
 
 /// The kernel of this name.
 pub fn kernel_of(name: &str) -> Option<Kernel> {
@@ -47,6 +56,11 @@ pub fn kernel_of(name: &str) -> Option<Kernel> {
         "respond-md5" => Some(Kernel::Respond(Algorithm::Md5)),
         "respond-sha256" => Some(Kernel::Respond(Algorithm::Sha256)),
         "replies" => Some(Kernel::Replies),
+        "long-replies" => Some(long_replies(LONG, WHOLE)),
+        "long-replies-half" => Some(long_replies(HALF, WHOLE)),
+        "long-replies-8192" => Some(long_replies(LONG, 8192)),
+        "long-replies-64" => Some(long_replies(LONG, 64)),
+        "long-replies-1" => Some(long_replies(LONG, 1)),
         "turns1" => Some(Kernel::Turns(1)),
         "turns2" => Some(Kernel::Turns(2)),
         "turns4" => Some(Kernel::Turns(4)),
@@ -56,4 +70,8 @@ pub fn kernel_of(name: &str) -> Option<Kernel> {
         "draws4" => Some(Kernel::Draws(Crew::Four)),
         _ => None,
     }
+}
+
+fn long_replies(chunks: u32, piece: usize) -> Kernel {
+    Kernel::LongReplies { chunks, piece }
 }
