@@ -15,6 +15,7 @@ use spaces::{
 use std::alloc::Global;
 use std::process::Abort;
 use std::test::Fail;
+use wire_head::ReplyReader;
 
 const EMPTY: &[u8] = b"authreport 1
 seed 0000000000000000000000000000000000000000000000000000000000000000
@@ -127,7 +128,7 @@ fn named(rt: &impl Abort, alloc: Global) -> Result<Names, NoMemory> {
 }
 
 fn reply(rt: &impl Abort, alloc: Global, text: &[u8]) -> Result<Reply, NoMemory> {
-    match read(alloc, Method::Get, text, 8192)? {
+    match read::<ReplyReader>(alloc, Method::Get, text, 0, 8192)? {
         Ok((reply, _)) => Ok(reply),
         Err(_) => {
             assert!(rt; false, "{}", text.escape_ascii());
