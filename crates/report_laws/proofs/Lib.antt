@@ -5,4 +5,5 @@ pub mod TextsAgain
 pub mod EntriesAgain
 pub mod RosterAgain
 pub mod TermsAgain
+pub mod EventWords
 pub mod EventsAgain
