@@ -2,3 +2,5 @@ pub mod NamedLemmas
 pub mod UseLemmas
 pub mod OneAnswer
 pub mod RequestLemmas
+pub mod ExchangeLemmas
+pub mod PeerLemmas

@@ -4,3 +4,5 @@ pub mod Judging
 pub mod Worlds
 pub mod Steps
 pub mod Generated
+pub mod Exchanges
+pub mod Peers

@@ -1,5 +1,5 @@
 -- A simulated world: what it answers to a head, after the heads before.
-use Rattle.std.specs.Prelude.{ℕ, ◌≡◌, ◌+◌, ◌&&◌, List, [], ◌∷◌, ◌++◌, slice_get, Option, Some, None}
+use Rattle.std.specs.Prelude.{ℕ, ◌≡◌, ◌+◌, ◌&&◌, List, [], ◌∷◌, ◌++◌, take, slice_get, Option, Some, None}
 use Rattle.std.specs.List.{position_from}
 use Rattle.link_trait.specs.declared.links.LinkName.{LinkName}
 use Rattle.spaces.specs.declared.place.Origin.{Origin}
@@ -31,6 +31,10 @@ heard world rule link said = record {
 -- a world with nothing changed but that its rules said more
 abbrev pub IsBehind : WorldState → WorldState → Type 0
 IsBehind old new = (more : List Judged) × (new ≡ record { number = old.number; rules = old.rules; past = old.past ++ more })
+
+-- the world when its rules had said so much
+abbrev pub since : ℕ → WorldState → WorldState
+since said world = record { number = world.number; rules = world.rules; past = take said world.past }
 
 -- the first rule of the origin and the target, by its place
 abbrev pub rule_of : Target → Origin → List Rule → Option ℕ

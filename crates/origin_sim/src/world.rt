@@ -131,6 +131,7 @@ impl World {
         ensures ok { IfOk result (λ reply. spec.IsReplyTo self.old link to.now (Some head.now)
             reply self.new) }
         ensures err { OnErr result (self.new ≡ self.old) }
+        ensures behind { spec.IsBehind self.old self.new }
     {
         let len = self.past.len();
         match self.reply(link, to, head) {
@@ -142,6 +143,20 @@ impl World {
         }
     }
 
+    /// How much its rules have said.
+    pub(crate) fn said(&self) -> usize
+        ensures { result ≡ length self.now.past }
+    {
+        self.past.len()
+    }
+
+    /// Takes back what its rules said since.
+    pub(crate) fn take_back(&mut self, said: usize)
+        ensures { self.new ≡ spec.since said self.old }
+    {
+        self.past.truncate(said);
+    }
+
     /// The reply to a request's head that goes over a link to an origin, after the heads before. A
     /// proxy at that origin judges it first, by its `Proxy-Authorization`; a refusal is a 407. Then
     /// the server that it names judges it, by its `Authorization`; a refusal is a 401. Where there
@@ -151,6 +166,7 @@ impl World {
         ensures ok { IfOk result (λ reply. spec.IsAnswer self.old name to.now head.now reply
             self.new) }
         ensures err { OnErr result (self.new ≡ self.old) }
+        ensures behind { spec.IsBehind self.old self.new }
     {
         match read_head(self.alloc, head) {
             Ok(head) => self.reply_or_none(name, to, &head),
