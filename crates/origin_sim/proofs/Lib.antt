@@ -4,3 +4,5 @@ pub mod OneAnswer
 pub mod RequestLemmas
 pub mod ExchangeLemmas
 pub mod PeerLemmas
+pub mod TrafficLemmas
+pub mod ServingLemmas

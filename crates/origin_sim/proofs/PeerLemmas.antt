@@ -1,28 +1,31 @@
 -- Peers of open links: which one a list gives for a name, after one is added, changed or taken out.
-use Rattle.std.proofs.Common.{◌≡◌, ℕ, ◌<◌, suc, zero, Bool, true, false, cond, not, List, [], ◌∷◌, ◌++◌, length, get_or, map, Option, Some, None, ◌⊎◌, inl, inr, refl, sym, ap, subst, ◌∙◌, arith, slice_get}
+use Rattle.std.proofs.Common.{◌≡◌, ℕ, ◌+◌, ◌||◌, ◌<◌, suc, zero, Bool, true, false, cond, not, List, [], ◌∷◌, ◌++◌, length, get_or, map, Option, Some, None, ◌⊎◌, inl, inr, refl, sym, ap, subst, ◌∙◌, arith, slice_get}
 use Rattle.std.specs.Prelude.{find, filter}
 use Rattle.std.specs.Option.{option_or}
-use Rattle.std.specs.List.{position_or_len}
+use Rattle.std.specs.List.{position_or_len, position_from}
+use Rattle.std.specs.Prelude.{nat_lt}
 use Rattle.std.proofs.Math.ListN.{set}
 use Rattle.std.proofs.lemmas.Option.{get_or_from_slice_get}
-use Rattle.std.proofs.lemmas.List.Folds.{find-append, find-set, find_past}
+use Rattle.std.proofs.lemmas.List.Folds.{find-append, find-set, find_past, find_at}
+use Rattle.std.proofs.lemmas.Iterator.Adapters.{position_from-zero}
 use Rattle.link_trait.specs.declared.links.LinkName.{LinkName}
-use Rattle.link_trait.specs.Links.{same_link, without_link}
+use Rattle.link_trait.specs.Links.{same_link, has_link, without_link}
 use Rattle.link_trait.proofs.LinkLemmas.{same_name, same_self}
 use Rattle.origin_sim.specs.declared.peers.Peer.{Peer}
 use Rattle.origin_sim.specs.Peers.{peer_of, names_of}
 
 -- a peer that is found has the name
 
+name_if : (name : LinkName) (p peer : Peer) (b : Bool) (later : Option Peer) → same_link p.name name ≡ b
+    → (later ≡ Some peer → peer.name ≡ name) → cond b (Some p) later ≡ Some peer → peer.name ≡ name
+name_if name p peer true later same rest found =
+    let it : p ≡ peer = cc found in
+    ap (λ (q : Peer). q.name) (sym it) ∙ same_name p.name name same
+name_if name p peer false later same rest found = rest found
+
 pub found_name : (name : LinkName) (peers : List Peer) (peer : Peer) → peer_of name peers ≡ Some peer → peer.name ≡ name
 found_name name [] peer is = cc is
-found_name name (p ∷ peers) peer is = by_test (same_link p.name name) refl is
-  where
-    by_test : (b : Bool) → same_link p.name name ≡ b → cond b (Some p) (peer_of name peers) ≡ Some peer → peer.name ≡ name
-    by_test true same found =
-        let it : p ≡ peer = cc found in
-        ap (λ (q : Peer). q.name) (sym it) ∙ same_name p.name name same
-    by_test false same found = found_name name peers peer found
+found_name name (p ∷ peers) peer is = name_if name p peer (same_link p.name name) (peer_of name peers) refl (found_name name peers peer) is
 
 pub other_link : (name other link : LinkName) → link ≡ name → same_link name other ≡ false → same_link link other ≡ false
 other_link name other link is differ = subst (λ (n : LinkName). same_link n other ≡ false) (sym is) differ
@@ -72,22 +75,25 @@ added other peers new peer is =
 abbrev pub without : LinkName → List Peer → List Peer
 without name peers = filter (λ peer. not (same_link peer.name name)) peers
 
+gone_if : (name : LinkName) (p : Peer) (rest : List Peer) (b : Bool) → same_link p.name name ≡ b → peer_of name rest ≡ None
+    → peer_of name (cond (not b) (p ∷ rest) rest) ≡ None
+gone_if name p rest true is none = none
+gone_if name p rest false is none = rw is none
+
 closed_gone : (name : LinkName) (peers : List Peer) → peer_of name (without name peers) ≡ None
 closed_gone name [] = refl
-closed_gone name (p ∷ peers) = by_test (same_link p.name name) refl
-  where
-    by_test : (b : Bool) → same_link p.name name ≡ b → peer_of name (cond (not b) (p ∷ without name peers) (without name peers)) ≡ None
-    by_test true is = closed_gone name peers
-    by_test false is = rw is (closed_gone name peers)
+closed_gone name (p ∷ peers) = gone_if name p (without name peers) (same_link p.name name) refl (closed_gone name peers)
+
+kept_if : (name other : LinkName) (p : Peer) (peers rest : List Peer) (b : Bool) → same_link p.name name ≡ b → same_link name other ≡ false
+    → peer_of other rest ≡ peer_of other peers
+    → peer_of other (cond (not b) (p ∷ rest) rest) ≡ cond (same_link p.name other) (Some p) (peer_of other peers)
+kept_if name other p peers rest true is differ same = rw (other_link name other p.name (same_name p.name name is) differ) same
+kept_if name other p peers rest false is differ same = ap (cond (same_link p.name other) (Some p)) same
 
 closed_kept : (name other : LinkName) (peers : List Peer) → same_link name other ≡ false → peer_of other (without name peers) ≡ peer_of other peers
 closed_kept name other [] differ = refl
-closed_kept name other (p ∷ peers) differ = by_test (same_link p.name name) refl
-  where
-    by_test : (b : Bool) → same_link p.name name ≡ b
-        → peer_of other (cond (not b) (p ∷ without name peers) (without name peers)) ≡ cond (same_link p.name other) (Some p) (peer_of other peers)
-    by_test true is = rw (other_link name other p.name (same_name p.name name is) differ) (closed_kept name other peers differ)
-    by_test false is = ap (cond (same_link p.name other) (Some p)) (closed_kept name other peers differ)
+closed_kept name other (p ∷ peers) differ =
+    kept_if name other p peers (without name peers) (same_link p.name name) refl differ (closed_kept name other peers differ)
 
 pub closed_found : (name other : LinkName) (peers : List Peer) (peer : Peer) → peer_of other (without name peers) ≡ Some peer
     → peer_of other peers ≡ Some peer
@@ -109,3 +115,39 @@ closed_names name [] = refl
 closed_names name (p ∷ peers) =
     names_if (not (same_link p.name name)) p (without name peers)
     ∙ ap (λ (names : List LinkName). cond (not (same_link p.name name)) (p.name ∷ names) names) (closed_names name peers)
+
+-- an open link's peer is found, and where
+
+find_if : (b h : Bool) (p : Peer) (later : Option Peer) → (h ≡ true → (peer : Peer) × (later ≡ Some peer)) → (b || h) ≡ true
+    → (peer : Peer) × (cond b (Some p) later ≡ Some peer)
+find_if true h p later rest has = (p, refl)
+find_if false h p later rest has = rest has
+
+pub find_peer : (name : LinkName) (peers : List Peer) → has_link name (names_of peers) ≡ true → (peer : Peer) × (peer_of name peers ≡ Some peer)
+find_peer name [] has = cc has
+find_peer name (p ∷ peers) has = find_if (same_link p.name name) (has_link name (names_of peers)) p (peer_of name peers) (find_peer name peers) has
+
+none_if : (b h : Bool) (k : ℕ) (later : Option ℕ) → (later ≡ None → h ≡ false) → cond b (Some k) later ≡ None → (b || h) ≡ false
+none_if true h k later rest none = cc none
+none_if false h k later rest none = rest none
+
+pub no_place : (name : LinkName) (peers : List Peer) (k : ℕ) → position_from (λ peer. same_link peer.name name) k peers ≡ None
+    → has_link name (names_of peers) ≡ false
+no_place name [] k none = refl
+no_place name (p ∷ peers) k none =
+    none_if (same_link p.name name) (has_link name (names_of peers)) k (position_from (λ peer. same_link peer.name name) (k + 1) peers)
+    (no_place name peers (k + 1)) none
+
+place_if : (b : Bool) (n place : ℕ) → cond b (Some n) None ≡ Some place → place ≡ n
+place_if true n place is = cc is
+place_if false n place is = cc is
+
+pub first_place : (name : LinkName) (peers : List Peer) (place : ℕ) → position_from (λ peer. same_link peer.name name) 0 peers ≡ Some place
+    → place ≡ position_or_len (λ peer. same_link peer.name name) peers
+first_place name peers place is =
+    let test = λ (peer : Peer). same_link peer.name name in
+    place_if (nat_lt (position_or_len test peers) (length peers)) (position_or_len test peers) place (position_from-zero test peers ∙ is)
+
+pub here : (name : LinkName) (peers : List Peer) (at : ℕ) (peer : Peer) → peer_of name peers ≡ Some peer
+    → at ≡ position_or_len (λ peer. same_link peer.name name) peers → slice_get peers at ≡ Some peer
+here name peers at peer found first = ap (slice_get peers) first ∙ sym (find_at (λ (p : Peer). same_link p.name name) peers) ∙ found

@@ -1,12 +1,11 @@
 //! What a dialer into a world keeps of each open link: what came on it that is no whole head yet,
 //! and what the world replied on it.
 
-ghost use Rattle.std.specs.Prelude.{◌≡◌, [], ◌<◌, true, false, filter, map, not, length};
-ghost use Rattle.std.specs.Prelude.{slice_get, IfOk};
-ghost use Rattle.std.specs.List.{position_or_len};
-ghost use Rattle.std.specs.ListN.{set};
+ghost use Rattle.std.specs.Prelude.{◌≡◌, [], ◌<◌, true, false, filter, not, length};
+ghost use Rattle.std.specs.Prelude.{IfOk, IfSome};
+ghost use Rattle.std.specs.List.{position_from, position_or_len};
 ghost use Rattle.link_trait.specs.Links.{has_link, same_link};
-ghost use Rattle.origin_sim.specs.Peers.{peer_of, names_of};
+ghost use Rattle.origin_sim.specs.Peers.{names_of};
 
 use auth_text::{Bytes, NoMemory};
 use link_trait::{LinkName, same_link};
@@ -40,14 +39,21 @@ pub(crate) fn new_peer(alloc: Global, name: LinkName, to: &Origin) -> Result<Pee
     })
 }
 
+// The place of the first end of that name.
+fn position(peers: &[Peer], name: LinkName) -> Option<usize>
+    ensures value { result ≡ position_from (λ peer. same_link peer.name name) 0 peers.now }
+    ensures within { IfSome result (λ place. place < length peers.now) }
+{
+    peers.iter().position(|peer| same_link(peer.name, name))
+}
+
 /// The place of the open link's end.
 pub(crate) fn place_of(peers: &[Peer], name: LinkName) -> usize
     requires { has_link name (names_of peers.now) ≡ true }
     ensures within { result < length peers.now }
     ensures first { result ≡ position_or_len (λ peer. same_link peer.name name) peers.now }
-    ensures here { slice_get peers.now result ≡ peer_of name peers.now }
 {
-    match peers.iter().position(|peer| same_link(peer.name, name)) {
+    match position(peers, name) {
         Some(place) => place,
         None => unreachable!(),
     }

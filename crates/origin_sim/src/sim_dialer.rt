@@ -119,7 +119,13 @@ impl SimDialer {
     {
         let at = place_of(self.peers.as_slice(), name);
         let said = self.world.said();
-        match served(self.alloc, &mut self.world, &mut self.log, &self.peers[at], bytes) {
+        match served(
+            self.alloc,
+            &mut self.world,
+            &mut self.log,
+            &self.peers[at],
+            bytes,
+        ) {
             Ok(it) => {
                 let peer = &mut self.peers[at];
                 peer.part = it.part;
@@ -143,10 +149,12 @@ impl SimDialer {
         ensures fit { length (heard_on name self.now.log.traffic) + length result.now < 2 ^ 64 }
     {
         let peer = &self.peers[place_of(self.peers.as_slice(), name)];
+        let replies = peer.replies.as_slice();
+        let place = self.log.place(name);
         if peer.ended {
             return &[];
         }
-        rest_of(peer.replies.as_slice(), self.log.place(name))
+        rest_of(replies, place)
     }
 
     // The link's end was read.
