@@ -6,3 +6,4 @@ pub mod Steps
 pub mod Generated
 pub mod Exchanges
 pub mod Peers
+pub mod Dialing

@@ -97,6 +97,8 @@ impl SimDialer {
             }) }
         ensures err { OnErr result (self.new.log ≡ self.old.log) }
         ensures failing { self.new.failing ≡ self.old.failing }
+        ensures before { self.new.before ≡ self.old.before }
+        ensures world { self.new.world ≡ self.old.world }
     {
         let peer = new_peer(self.alloc, name, to)?;
         self.peers.reserve(1)?;
@@ -116,6 +118,9 @@ impl SimDialer {
             }) }
         ensures err { OnErr result (self.new.log ≡ self.old.log) }
         ensures failing { self.new.failing ≡ self.old.failing }
+        ensures start { since self.new.before self.new.world
+            ≡ since self.old.before self.old.world }
+        ensures world { OnErr result (self.new.world ≡ self.old.world) }
     {
         let at = place_of(self.peers.as_slice(), name);
         let said = self.world.said();
@@ -171,6 +176,8 @@ impl SimDialer {
             }) }
         ensures err { OnErr result (self.new.log ≡ self.old.log) }
         ensures failing { self.new.failing ≡ self.old.failing }
+        ensures before { self.new.before ≡ self.old.before }
+        ensures world { self.new.world ≡ self.old.world }
     {
         let at = place_of(self.peers.as_slice(), name);
         self.log.ended(name)?;
@@ -180,7 +187,10 @@ impl SimDialer {
 }
 
 impl Dialer for SimDialer {
-    ghost use Rattle.std.specs.Prelude.{Some, None};
+    ghost use Rattle.std.specs.Prelude.{Some, None, ◌↔◌};
+    ghost use Rattle.link_trait.specs.Faults.{next_fails, counted};
+    ghost use Rattle.link_trait.specs.Streams.{IsGivenCount};
+    ghost use Rattle.origin_sim.specs.Dialing as after;
 
     ghost dials = { λ it. Some it.log.dials };
 
@@ -200,14 +210,30 @@ impl Dialer for SimDialer {
 
     ghost quiet = { λ it. it.failing.schedule.listed ≡ [] };
 
-    fn dial(&mut self, name: LinkName, to: &Origin) -> Dialed {
+    fn dial(&mut self, name: LinkName, to: &Origin) -> Dialed
+        requires closed { has_link name self.old.log.opened ≡ false }
+        requires fresh { has_dial name self.old.log.dials ≡ false }
+        ensures log { self.new.log ≡ after.dialed result name to.now self.old.log }
+        ensures never { result ≢ Dialed.Failed }
+        ensures failing { self.new.failing ≡ self.old.failing }
+        ensures before { self.new.before ≡ self.old.before }
+        ensures world { self.new.world ≡ self.old.world }
+    {
         match self.dialed(name, to) {
             Ok(()) => Dialed::Link,
             Err(NoMemory) => Dialed::NoMemory,
         }
     }
 
-    fn write(&mut self, name: LinkName, bytes: &[u8]) -> Wrote {
+    fn write(&mut self, name: LinkName, bytes: &[u8]) -> Wrote
+        requires { has_link name self.old.log.opened ≡ true }
+        ensures log { self.new.log ≡ after.written result name bytes.now self.old.log }
+        ensures fails { (result ≡ Wrote.Failed) ↔ (next_fails self.old.failing.schedule ≡ true) }
+        ensures failing { self.new.failing ≡ counted self.old.failing }
+        ensures start { since self.new.before self.new.world
+            ≡ since self.old.before self.old.world }
+        ensures world { result ≢ Wrote.All → self.new.world ≡ self.old.world }
+    {
         if self.failing.next_fails() {
             return Wrote::Failed;
         }
@@ -217,7 +243,16 @@ impl Dialer for SimDialer {
         }
     }
 
-    fn read(&mut self, name: LinkName, buf: &mut [u8]) -> Got {
+    fn read(&mut self, name: LinkName, buf: &mut [u8]) -> Got
+        requires open { has_link name self.old.log.opened ≡ true }
+        requires room { 0 < length buf.old }
+        ensures count { IsGivenCount result (length buf.new) }
+        ensures log { self.new.log ≡ after.read result name buf.new self.old.log }
+        ensures never { result ≢ Got.Failed }
+        ensures failing { self.new.failing ≡ self.old.failing }
+        ensures before { self.new.before ≡ self.old.before }
+        ensures world { self.new.world ≡ self.old.world }
+    {
         let rest = self.rest(name);
         if rest.is_empty() {
             return match self.ended(name) {
@@ -232,7 +267,13 @@ impl Dialer for SimDialer {
         }
     }
 
-    fn close(&mut self, name: LinkName) {
+    fn close(&mut self, name: LinkName)
+        requires { has_link name self.old.log.opened ≡ true }
+        ensures log { self.new.log ≡ after.closed name self.old.log }
+        ensures failing { self.new.failing ≡ self.old.failing }
+        ensures before { self.new.before ≡ self.old.before }
+        ensures world { self.new.world ≡ self.old.world }
+    {
         self.log.closed(name);
         close_peer(&mut self.peers, name);
     }

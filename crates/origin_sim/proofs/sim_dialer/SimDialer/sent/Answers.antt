@@ -92,3 +92,22 @@ invariant_of-self-in-Err c =
       serving = subst (λ (w : WorldState). ∥ IsServing (since it.before w) c.served.new.log w peers ∥₁) (sym back)
           (subst (λ (l : LogState). ∥ IsServing start l it.world peers ∥₁) (sym log) it.serving);
     }
+
+pub returns-in-Ok-clause-start : goal.returns-in-Ok-clause-start
+returns-in-Ok-clause-start c =
+    let it = c.args.self.now in
+    since_more it.before it.world c.served.new.world it.begun c.served.ensures.behind
+
+pub returns-in-Err-clause-start : goal.returns-in-Err-clause-start
+returns-in-Err-clause-start c =
+    let it = c.args.self.now in
+    let back : c.take_back.new.self ≡ it.world =
+    c.take_back.ensures ∙ ap (λ (n : ℕ). since n c.served.new.world) c.said-said.ensures
+    ∙ taken_back it.world c.served.new.world c.served.ensures.behind in
+    ap (since it.before) back
+
+pub returns-in-Err-clause-world : goal.returns-in-Err-clause-world
+returns-in-Err-clause-world c =
+    let it = c.args.self.now in
+    c.take_back.ensures ∙ ap (λ (n : ℕ). since n c.served.new.world) c.said-said.ensures
+    ∙ taken_back it.world c.served.new.world c.served.ensures.behind
