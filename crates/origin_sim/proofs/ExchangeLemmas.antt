@@ -1,23 +1,19 @@
 -- Exchanges grow by the heads that a write makes whole, one after the other.
-use Rattle.std.proofs.Common.{◌≡◌, ℕ, ◌+◌, ◌<◌, ◌≤◌, Bool, true, false, cond, ◌&&◌, ◌==◌, List, [], ◌∷◌, ◌++◌, length, take, drop, Option, Some, None, refl, sym, ap, subst, ◌∙◌, arith, append_assoc, append-nil}
-use Rattle.std.specs.List.{list_all, list_any, flat_map}
-use Rattle.std.specs.Prelude.{find, option_map}
+use Rattle.std.proofs.Common.{◌≡◌, ℕ, true, cond, ◌&&◌, List, [], ◌∷◌, ◌++◌, length, take, drop, Some, refl, sym, ap, subst, ◌∙◌, arith, append_assoc, append-nil}
 use Rattle.std.proofs.lemmas.Grind.{common_steps, flat_map-append}
 use Rattle.std.proofs.lemmas.List.{take-append-drop, length-take-le}
-use Rattle.std.proofs.lemmas.List.Folds.{list_all-append, list_any-append, find-append}
+use Rattle.std.proofs.lemmas.List.Folds.{list_all-append}
 use Rattle.link_trait.specs.declared.links.LinkName.{LinkName}
 use Rattle.link_trait.specs.declared.dialer.Dial.{Dial}
-use Rattle.link_trait.specs.declared.dialer.Traffic.{Traffic}
-use Rattle.link_trait.specs.declared.dialer.Traffic.TheVariants.{Sent, Received, Ended}
-use Rattle.link_trait.specs.Links.{same_link, has_dial, heard_in, heard_on, has_ended, is_end_of, are_dialed, link_of}
-use Rattle.link_trait.proofs.LinkLemmas.{same_name, same_self}
-use Rattle.link_trait.proofs.LogLemmas.{and_front, and_rest, both}
+use Rattle.link_trait.specs.Links.{same_link}
+use Rattle.link_trait.proofs.LinkLemmas.{same_self}
+use Rattle.link_trait.proofs.LogLemmas.{both}
 use Rattle.spaces.specs.declared.place.Origin.{Origin}
 use Rattle.wire_head.specs.Lines.{head_len}
 use Rattle.wire_head.proofs.HeadLengthLemmas.{head_within, head_local}
-use Rattle.origin_sim.specs.Worlds.{WorldState, IsAnswer, IsBehind, since}
+use Rattle.origin_sim.specs.Worlds.{WorldState, IsAnswer, IsBehind}
 use Rattle.origin_sim.specs.declared.judged.Judged.{Judged}
-use Rattle.origin_sim.specs.Exchanges.{Exchange, AreAnswered, dialed_to, AreTo, written_in, written_on, heads_on, replies_on, ends_at, is_whole, are_on}
+use Rattle.origin_sim.specs.Exchanges.{Exchange, AreAnswered, AreTo, heads_on, replies_on, is_whole, are_on}
 use Rattle.origin_sim.specs.Peers.{IsAnswering}
 
 -- what the exchanges are, they are with more

@@ -1,6 +1,5 @@
 -- Each open link has its peer, and goes on having it as links are dialed, written to, read and closed.
-use Rattle.std.proofs.Common.{◌≡◌, ℕ, ◌<◌, ◌≤◌, Bool, true, false, cond, ◌||◌, List, [], ◌∷◌, ◌++◌, ◌+◌, length, take, drop, get_or, map, IfSome, Option, Some, None, ◌⊎◌, inl, inr, refl, sym, ap, subst, ◌∙◌, arith, append_assoc, append-nil, length-append, slice_get}
-use Rattle.std.specs.Prelude.{reverse}
+use Rattle.std.proofs.Common.{◌≡◌, ℕ, ◌<◌, ◌≤◌, Bool, true, false, ◌||◌, List, [], ◌∷◌, ◌++◌, ◌+◌, length, take, drop, get_or, IfSome, Option, Some, None, inl, inr, refl, sym, ap, subst, ◌∙◌, arith, append_assoc, append-nil, length-append, slice_get}
 use Rattle.std.specs.List.{position_or_len}
 use Rattle.std.proofs.Math.ListN.{set}
 use Rattle.std.proofs.Math.Logic.{∥∥₁_elim, ∥∥₁_map}
@@ -17,12 +16,11 @@ use Rattle.link_trait.specs.Recorded.{LogState}
 use Rattle.link_trait.proofs.LinkLemmas.{same_name, same_self}
 use Rattle.link_trait.proofs.LogLemmas.{silent}
 use Rattle.spaces.specs.declared.place.Origin.{Origin}
-use Rattle.wire_head.specs.Lines.{head_len}
 use Rattle.origin_sim.specs.Worlds.{WorldState, IsBehind, since}
 use Rattle.origin_sim.specs.declared.judged.Judged.{Judged}
 use Rattle.origin_sim.specs.declared.peers.Peer.{Peer}
-use Rattle.origin_sim.specs.Exchanges.{Exchange, AreAnswered, dialed_to, AreTo, written_in, written_on, heads_on, replies_on, are_on, AreOf, IsSimulated}
-use Rattle.origin_sim.specs.Peers.{peer_of, names_of, IsPeer, IsServing, IsAnswering, IsServed}
+use Rattle.origin_sim.specs.Exchanges.{Exchange, AreTo, written_in, written_on, heads_on, replies_on}
+use Rattle.origin_sim.specs.Peers.{peer_of, IsPeer, IsServing, IsAnswering, IsServed}
 use Rattle.origin_sim.proofs.ExchangeLemmas.{answered_more, to_more, heads_more, replies_more}
 use Rattle.origin_sim.proofs.PeerLemmas.{found_name, here, find_peer, changed_same, changed_other, changed_names, added, without, closed_found, closed_names}
 use Rattle.origin_sim.proofs.TrafficLemmas.{written_more, heard_more, ended_more, of_sent, of_received, of_ended, off_heads, off_replies, origin_more, to_dials, origin_none, origin_last, undialed_heads, undialed_replies, undialed_written, undialed_ended}

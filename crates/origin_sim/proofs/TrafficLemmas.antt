@@ -1,7 +1,6 @@
 -- What was written, read and answered on a link, as one more event comes, and where a link wasn't dialed.
-use Rattle.std.proofs.Common.{◌≡◌, ℕ, Bool, true, false, cond, ◌||◌, List, [], ◌∷◌, ◌++◌, Option, Some, None, refl, sym, ap, subst, ◌∙◌, arith, append_assoc, append-nil}
+use Rattle.std.proofs.Common.{◌≡◌, ℕ, Bool, true, false, cond, ◌||◌, List, [], ◌∷◌, ◌++◌, Option, Some, None, refl, sym, ap, subst, ◌∙◌, append-nil}
 use Rattle.std.specs.Prelude.{find, option_map, reverse}
-use Rattle.std.specs.List.{list_any, flat_map}
 use Rattle.std.specs.Option.{option_or}
 use Rattle.std.proofs.lemmas.Grind.{flat_map-append}
 use Rattle.std.proofs.lemmas.List.{reverse-append, reverse-reverse}
@@ -12,7 +11,7 @@ use Rattle.link_trait.specs.declared.dialer.Traffic.{Traffic}
 use Rattle.link_trait.specs.declared.dialer.Traffic.TheVariants.{Sent, Received, Ended}
 use Rattle.link_trait.specs.Links.{same_link, has_dial, heard_in, heard_on, has_ended, is_end_of, are_dialed, link_of}
 use Rattle.link_trait.proofs.LinkLemmas.{same_name, same_self}
-use Rattle.link_trait.proofs.LogLemmas.{and_front, and_rest, silent}
+use Rattle.link_trait.proofs.LogLemmas.{and_front, and_rest}
 use Rattle.spaces.specs.declared.place.Origin.{Origin}
 use Rattle.wire_head.specs.Lines.{head_len}
 use Rattle.origin_sim.specs.Exchanges.{Exchange, dialed_to, AreTo, written_in, written_on, heads_on, replies_on, is_whole, are_on, AreOf}

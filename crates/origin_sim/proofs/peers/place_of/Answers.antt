@@ -1,4 +1,4 @@
-use Rattle.std.proofs.Common.{◌≡◌, sym, ◌∙◌, ap, false}
+use Rattle.std.proofs.Common.{◌≡◌, sym, ◌∙◌, false}
 use Rattle.link_trait.specs.Links.{has_link}
 use Rattle.origin_sim.specs.Peers.{names_of}
 use Rattle.origin_sim.proofs.PeerLemmas.{first_place, no_place}

@@ -1,7 +1,7 @@
-use Rattle.std.proofs.Common.{◌≡◌, ◌∙◌, ◌++◌, [], ℕ, List, length, drop, true, false, sym, ap, subst, arith, append-nil}
+use Rattle.std.proofs.Common.{◌≡◌, ◌∙◌, ◌++◌, ℕ, List, length, drop, sym, ap, arith}
 use Rattle.std.specs.List.{position_or_len}
 use Rattle.std.proofs.lemmas.Grind.{common_steps}
-use Rattle.link_trait.specs.Links.{same_link, heard_on, has_ended}
+use Rattle.link_trait.specs.Links.{same_link, heard_on}
 use Rattle.origin_sim.specs.Worlds.{since}
 use Rattle.origin_sim.specs.declared.peers.Peer.{Peer}
 use Rattle.origin_sim.proofs.ServingLemmas.{its_end, its_front, its_peer}

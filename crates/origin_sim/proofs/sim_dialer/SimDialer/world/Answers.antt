@@ -1,4 +1,4 @@
-use Rattle.std.proofs.Common.{◌≡◌, List, refl, subst}
+use Rattle.std.proofs.Common.{◌≡◌, List, subst}
 use Rattle.std.proofs.Math.Logic.{∥∥₁_map}
 use Rattle.link_trait.specs.declared.dialer.Dial.{Dial}
 use Rattle.link_trait.specs.declared.dialer.Traffic.{Traffic}

@@ -1,9 +1,9 @@
-use Rattle.std.proofs.Common.{◌≡◌, ◌∙◌, ◌++◌, ◌∷◌, [], ℕ, take, drop, false, Option, Some, List, IfSome, sym, ap, subst, arith}
+use Rattle.std.proofs.Common.{◌≡◌, ◌∙◌, ◌++◌, [], ℕ, take, drop, Option, List, IfSome, sym, ap, subst, arith}
 use Rattle.std.proofs.Math.Logic.{∥∥₁_map}
 use Rattle.std.proofs.lemmas.Grind.{common_steps}
 use Rattle.std.proofs.lemmas.List.{take-append-drop}
 use Rattle.link_trait.specs.Recorded.{LogState}
-use Rattle.link_trait.specs.Links.{heard_on, has_ended}
+use Rattle.link_trait.specs.Links.{heard_on}
 use Rattle.link_trait.proofs.LogLemmas.{still}
 use Rattle.origin_sim.specs.Worlds.{since}
 use Rattle.origin_sim.specs.Peers.{IsServing}
