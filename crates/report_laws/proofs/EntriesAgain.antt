@@ -122,10 +122,10 @@ pub joins_append : (t : List ℕ) (ws vs : List (List ℕ)) → joins (joins t w
 joins_append t [] vs = refl
 joins_append t (w ∷ ws) vs = joins_append (t ++ 32 ∷ w) ws vs
 
-abbrev entry_words : Entry → List (List ℕ)
+abbrev pub entry_words : Entry → List (List ℕ)
 entry_words entry = decimal entry.caller ∷ decimal entry.request ∷ call_names entry.call ++ (codes "=" ∷ reply_names entry.reply)
 
-line_is : (entry : Entry) → entry_line entry ≡ joins (codes "e") (entry_words entry) ++ 10 ∷ []
+pub line_is : (entry : Entry) → entry_line entry ≡ joins (codes "e") (entry_words entry) ++ 10 ∷ []
 line_is entry =
     let head : List ℕ = codes "e" ++ (32 ∷ decimal entry.caller ++ 32 ∷ decimal entry.request) in
     let heads : head ≡ joins (codes "e") (decimal entry.caller ∷ decimal entry.request ∷ []) = by_two (codes "e") (32 ∷ decimal entry.caller) (32 ∷ decimal entry.request) in
@@ -237,7 +237,7 @@ reply_plain Noted h call f = refl
 reply_plain Ended h call f = refl
 reply_plain (Drawn n e) h call f = absurd (no_drawn n e call f)
 
-entry_plain : (entry : Entry) → EntryHolds entry → fits entry.call entry.reply ≡ true → all_plain (entry_words entry) ≡ true
+pub entry_plain : (entry : Entry) → EntryHolds entry → fits entry.call entry.reply ≡ true → all_plain (entry_words entry) ≡ true
 entry_plain entry h fit =
     rw (
       small_plain entry.caller h.caller,

@@ -7,3 +7,13 @@ pub mod RosterAgain
 pub mod TermsAgain
 pub mod EventWords
 pub mod EventsAgain
+pub mod CutLines
+pub mod Fronts
+pub mod RosterFront
+pub mod JournalFront
+pub mod TraceFront
+pub mod NamesFront
+pub mod TermsFront
+pub mod TermsTaken
+pub mod Back
+pub mod EachLemmas

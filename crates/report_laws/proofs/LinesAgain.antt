@@ -79,9 +79,12 @@ taken written x = rw (same (written x)) refl
 
 -- LINES
 
+pub default_plain : (origin : Origin) → OriginHolds origin → all_plain (word_of (origin_text origin) ∷ []) ≡ true
+default_plain origin h = rw (plain_origin origin h) refl
+
 pub default_again : (origin : Origin) → OriginHolds origin → default_at (default_line origin) ≡ Some origin
 default_again origin h =
-    let ws = words_again (codes "default") (word_of (origin_text origin) ∷ []) refl (rw (plain_origin origin h) refl) in
+    let ws = words_again (codes "default") (word_of (origin_text origin) ∷ []) refl (default_plain origin h) in
     rw (ws, origin_again origin h) (taken default_line origin)
 
 abbrev pub target_name : Target → List ℕ
@@ -126,20 +129,20 @@ scheme_plain Password = refl
 pub partition_again : (name : List ℕ) → NameHolds name → partition_of (word_of name) ≡ Some name
 partition_again name h = ap (λ (v : List ℕ). result_ok (partition v)) (value_again name h.bytes) ∙ rw h.fit refl
 
-abbrev space_words : ℕ → ProtectionSpace → List (List ℕ)
+abbrev pub space_words : ℕ → ProtectionSpace → List (List ℕ)
 space_words n space =
     decimal n ∷ word_of space.site.partition ∷ target_name space.site.target ∷ word_of (origin_text space.site.origin) ∷ scheme_name space.scheme ∷ word_of space.realm ∷ []
 
 six : (k n p t o s r e : List ℕ) → ((((k ++ n) ++ ((p ++ t) ++ o)) ++ s) ++ r) ++ e ≡ ((((((k ++ n) ++ p) ++ t) ++ o) ++ s) ++ r) ++ e
 six k n p t o s r e = simp append_assoc
 
-space_line_is : (n : ℕ) (space : ProtectionSpace) → space_line n space ≡ joins (codes "space") (space_words n space) ++ 10 ∷ []
+pub space_line_is : (n : ℕ) (space : ProtectionSpace) → space_line n space ≡ joins (codes "space") (space_words n space) ++ 10 ∷ []
 space_line_is n space =
     six (codes "space") (32 ∷ decimal n) (32 ∷ word_of space.site.partition) (target_word space.site.target) (32 ∷ word_of (origin_text space.site.origin))
     (scheme_word space.scheme) (32 ∷ word_of space.realm) (10 ∷ [])
     ∙ rw (target_is space.site.target, scheme_is space.scheme) refl
 
-space_plain : (n : ℕ) (space : ProtectionSpace) → n < 2 ^ 32 → SpaceHolds space → all_plain (space_words n space) ≡ true
+pub space_plain : (n : ℕ) (space : ProtectionSpace) → n < 2 ^ 32 → SpaceHolds space → all_plain (space_words n space) ≡ true
 space_plain n space small h =
     rw (
       plain_decimal n (omega (arith, small)),

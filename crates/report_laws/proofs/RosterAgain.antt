@@ -51,9 +51,12 @@ seed_decoded seed h n =
     ∙ sym (decode_of-even (encode_lower seed) (omega (arith, len, n)))
     ∙ decode_of-encode_lower seed (hex_bytes seed h)
 
+pub seed_plain : (seed : List ℕ) → are_bytes seed ≡ true → all_plain (encode_lower seed ∷ []) ≡ true
+seed_plain seed h = rw (plain_hex seed h) refl
+
 pub seed_again : (seed : List ℕ) → are_bytes seed ≡ true → length seed ≡ 32 → seed_at (seed_line seed) ≡ Some seed
 seed_again seed h n =
-    let ws = words_again (codes "seed") (encode_lower seed ∷ []) refl (rw (plain_hex seed h) refl) in
+    let ws = words_again (codes "seed") (encode_lower seed ∷ []) refl (seed_plain seed h) in
     ap (λ (vs : List (List ℕ)). seed_form vs >>= if_written seed_line (seed_line seed)) ws
     ∙ ap (λ (o : Option (List ℕ)). o >>= if_written seed_line (seed_line seed)) (ap result_ok (seed_decoded seed h n))
     ∙ taken seed_line seed
@@ -111,14 +114,14 @@ proxy_again (Some origin) h =
 place_again : (request : Request) → are_bytes request.place.text ≡ true → IsPlaced request → place_of (word_of request.place.text) ≡ Some request.place
 place_again request h placed = ap (λ (v : List ℕ). result_ok (place v)) (value_again request.place.text h) ∙ ap result_ok placed
 
-abbrev request_words : ℕ → Request → List (List ℕ)
+abbrev pub request_words : ℕ → Request → List (List ℕ)
 request_words n request =
     decimal n ∷ method_name request.method ∷ word_of request.partition ∷ word_of request.place.text ∷ proxy_name request.proxy ∷ []
 
-request_line_is : (n : ℕ) (request : Request) → request_line n request ≡ joins (codes "request") (request_words n request) ++ 10 ∷ []
+pub request_line_is : (n : ℕ) (request : Request) → request_line n request ≡ joins (codes "request") (request_words n request) ++ 10 ∷ []
 request_line_is n request = rw (method_is request.method, proxy_is request.proxy) refl
 
-request_plain : (n : ℕ) (request : Request) → n < 2 ^ 32 → RequestHolds request → all_plain (request_words n request) ≡ true
+pub request_plain : (n : ℕ) (request : Request) → n < 2 ^ 32 → RequestHolds request → all_plain (request_words n request) ≡ true
 request_plain n request small h =
     rw (
       plain_decimal n (omega (arith, small)),

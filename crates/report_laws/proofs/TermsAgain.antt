@@ -89,14 +89,14 @@ front_names n name more =
     decimal n ∷ decimal name.space ∷ decimal name.nonce ∷ algorithm_name name.terms.algorithm ∷ said_name name.terms.said ∷ qop_name name.terms.qop
     ∷ word_of name.terms.nonce ∷ more
 
-abbrev terms_names : ℕ → TermsName → List (List ℕ)
+abbrev pub terms_names : ℕ → TermsName → List (List ℕ)
 terms_names n name = front_names n name (last_names name.terms.opaque name.terms.userhash)
 
 -- the words of the terms behind those before them
 flat : (t a s q n o u : List ℕ) → t ++ (((((a ++ s) ++ q) ++ n) ++ o) ++ u) ≡ (((((t ++ a) ++ s) ++ q) ++ n) ++ o) ++ u
 flat t a s q n o u = simp append_assoc
 
-terms_line_is : (n : ℕ) (name : TermsName) → terms_line n name ≡ joins (codes "terms") (terms_names n name) ++ 10 ∷ []
+pub terms_line_is : (n : ℕ) (name : TermsName) → terms_line n name ≡ joins (codes "terms") (terms_names n name) ++ 10 ∷ []
 terms_line_is n name =
     let front : List ℕ = ((codes "terms" ++ (32 ∷ decimal n)) ++ (32 ∷ decimal name.space)) ++ (32 ∷ decimal name.nonce) in
     ap (λ (text : List ℕ). text ++ 10 ∷ [])
@@ -106,7 +106,7 @@ terms_line_is n name =
     (last_is ((((front ++ (32 ∷ algorithm_name name.terms.algorithm)) ++ (32 ∷ said_name name.terms.said)) ++ (32 ∷ qop_name name.terms.qop)) ++ (32 ∷ word_of name.terms.nonce))
     name.terms.opaque name.terms.userhash))
 
-terms_plain : (n : ℕ) (name : TermsName) → n < 2 ^ 32 → TermsHolds name → all_plain (terms_names n name) ≡ true
+pub terms_plain : (n : ℕ) (name : TermsName) → n < 2 ^ 32 → TermsHolds name → all_plain (terms_names n name) ≡ true
 terms_plain n name small h =
     rw (
       plain_decimal n (omega (arith, small)),

@@ -33,7 +33,7 @@ login_again user password h =
     let none = is_not (list_any (λ b. b == 58) user) a.0 in
     rw none (no_control (position_from is_control 0 (login_text user password)) user password a.1)
 
-text_words_plain : (n : ℕ) (text : Login) → n < 2 ^ 32 → TextHolds text → all_plain (decimal n ∷ word_of text.user ∷ word_of text.password ∷ []) ≡ true
+pub text_words_plain : (n : ℕ) (text : Login) → n < 2 ^ 32 → TextHolds text → all_plain (decimal n ∷ word_of text.user ∷ word_of text.password ∷ []) ≡ true
 text_words_plain n text small h = rw (plain_decimal n (omega (arith, small)), plain_word text.user h.user, plain_word text.password h.password) refl
 
 pub text_again : (n : ℕ) (text : Login) → n < 2 ^ 32 → TextHolds text → text_at n (text_line n text) ≡ Some text

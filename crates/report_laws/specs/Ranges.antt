@@ -21,6 +21,7 @@ use Rattle.link_trait.specs.declared.prompts.AskSeen.{AskSeen}
 use Rattle.link_trait.specs.declared.prompts.AskSeen.TheVariants.{Failed as AskFailed}
 use Rattle.link_trait.specs.declared.steps.StepSeen.{StepSeen}
 use Rattle.link_trait.specs.declared.steps.StepSeen.TheVariants.{Token, Failed as StepFailed}
+use Rattle.auth_runs.specs.Runs.{Run, Each}
 use Rattle.auth_runs.specs.declared.event.Why.{Why}
 use Rattle.auth_runs.specs.declared.event.Why.TheVariants.{Cancelled}
 use Rattle.auth_runs.specs.declared.event.Outcome.{Outcome}
@@ -164,3 +165,15 @@ EventHolds (AskedFor prompt given) = (prompt < 2 ^ 32) × AskHolds given
 EventHolds (Stepped target step) = StepHolds step
 EventHolds (Ended outcome) = OutcomeHolds outcome
 EventHolds _ = ⊤
+
+-- A RUN
+
+pub record RunHolds (run : Run) : Type 0 where
+  pub seed : are_bytes run.seed ≡ true
+  pub allowed : Each OriginHolds run.roster.allowed
+  pub requests : Each RequestHolds run.roster.requests
+  pub spaces : Each SpaceHolds run.names.spaces
+  pub terms : Each TermsHolds run.names.terms
+  pub texts : Each TextHolds run.names.texts
+  pub journal : Each EntryHolds run.journal
+  pub traces : Each (λ events. Each EventHolds events) run.traces

@@ -6,8 +6,11 @@ mod entry_holds;
 mod event_holds;
 mod holds;
 mod lines;
+mod run_holds;
+mod whole;
 
 pub use lines::{
     default_line_reads_back, entry_line_reads_back, event_line_reads_back, request_line_reads_back,
     seed_line_reads_back, space_line_reads_back, terms_line_reads_back, text_line_reads_back,
 };
+pub use whole::text_reads_back;

@@ -1,0 +1,11 @@
+use Rattle.report_laws.specs.Ranges.{SpaceHolds}
+use Rattle.report_laws.proofs.EachLemmas.{each_more, each_all}
+use Rattle.report_laws.proofs.run_holds.keeps_spaces.Goals as goal
+
+pub loop-it-preserved : goal.loop-it-preserved
+loop-it-preserved c =
+    each_more SpaceHolds c.args.all.now c.loop-it.it-index c.it-item.result c.it-item.result c.loop-it-test.true c.it-item.is c.loop-it.invariant
+    c.keeps_space.ensures
+
+pub returns : goal.returns
+returns c = each_all SpaceHolds c.args.all.now c.loop-it.it-index c.loop-it-test.false c.loop-it.invariant

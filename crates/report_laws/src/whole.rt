@@ -1,0 +1,35 @@
+//! The whole text of a run.
+
+ghost use Rattle.std.specs.Prelude.{◌≡◌, Ok};
+ghost use Rattle.auth_report.specs.Report.{text};
+ghost use Rattle.auth_report.specs.Reading.{report};
+ghost use Rattle.report_laws.specs.Kept.{IsKept};
+ghost use Rattle.report_laws.specs.Ranges.{RunHolds};
+
+use crate::holds::keeps_bytes;
+use crate::run_holds::{
+    keeps_all_terms, keeps_entries, keeps_origins, keeps_requests, keeps_spaces, keeps_texts,
+    keeps_traces,
+};
+use auth_runs::Run;
+
+fn keeps_run(run: &Run)
+    ensures { RunHolds run.now }
+{
+    keeps_bytes(run.seed());
+    keeps_origins(run.roster().allowed.as_slice());
+    keeps_requests(run.roster().requests.as_slice());
+    keeps_spaces(run.names().spaces());
+    keeps_all_terms(run.names().all_terms());
+    keeps_texts(run.names().texts());
+    keeps_entries(run.entries());
+    keeps_traces(run.traces());
+}
+
+/// What is read of the text of a run is that run, where the run keeps what a report can tell.
+pub fn text_reads_back(run: &Run)
+    requires { IsKept run.now }
+    ensures { report (text run.now) ≡ Ok run.now }
+{
+    keeps_run(run);
+}
