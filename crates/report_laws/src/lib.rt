@@ -1,5 +1,7 @@
 //! What holds of the reader of reports: each line that is written for a thing is read as that
-//! thing. Each law is the contract of a function that changes nothing and answers nothing.
+//! thing, and the text of a run as that run, where the run keeps what `IsKept` says. That every run
+//! which is read keeps it isn't proved, nor that no run's text begins with the lines up to the one
+//! that is told. Each law is the contract of a function that changes nothing and answers nothing.
 #![tactic(auto)]
 
 mod entry_holds;
@@ -13,4 +15,4 @@ pub use lines::{
     default_line_reads_back, entry_line_reads_back, event_line_reads_back, request_line_reads_back,
     seed_line_reads_back, space_line_reads_back, terms_line_reads_back, text_line_reads_back,
 };
-pub use whole::text_reads_back;
+pub use whole::{text_is_of_one_run, text_reads_back};

@@ -33,3 +33,14 @@ pub fn text_reads_back(run: &Run)
 {
     keeps_run(run);
 }
+
+/// A text is the text of one run only.
+pub fn text_is_of_one_run(a: &Run, b: &Run)
+    requires first { IsKept a.now }
+    requires second { IsKept b.now }
+    requires same { text a.now ≡ text b.now }
+    ensures { a.now ≡ b.now }
+{
+    keeps_run(a);
+    keeps_run(b);
+}
