@@ -17,3 +17,4 @@ pub mod TermsFront
 pub mod TermsTaken
 pub mod Back
 pub mod EachLemmas
+pub mod ReadRuns

@@ -1,3 +1,4 @@
 pub mod Ranges
 pub mod Kept
 pub mod Lines
+pub mod Read

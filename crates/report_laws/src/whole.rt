@@ -5,6 +5,7 @@ ghost use Rattle.auth_report.specs.Report.{text};
 ghost use Rattle.auth_report.specs.Reading.{report};
 ghost use Rattle.report_laws.specs.Kept.{IsKept};
 ghost use Rattle.report_laws.specs.Ranges.{RunHolds};
+ghost use Rattle.report_laws.specs.Read.{HasRoom};
 
 use crate::holds::keeps_bytes;
 use crate::run_holds::{
@@ -44,3 +45,10 @@ pub fn text_is_of_one_run(a: &Run, b: &Run)
     keeps_run(a);
     keeps_run(b);
 }
+
+/// A run that is read has at most 2,048 requests, at most 64 entries of each, each of a request of
+/// the roster, and one trace for each request.
+pub fn what_is_read_has_room(bytes: &[u8], run: &Run)
+    requires { report bytes.now ≡ Ok run.now }
+    ensures { HasRoom run.now }
+{}

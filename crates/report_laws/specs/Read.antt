@@ -1,0 +1,12 @@
+-- What is proved of a run that was read.
+use Rattle.std.specs.Prelude.{◌≡◌, ◌≤◌, length}
+use Rattle.auth_events.specs.Pages.{IsWithinRoom}
+use Rattle.auth_runs.specs.Runs.{Run}
+
+pub record HasRoom (run : Run) : Type 0 where
+  -- at most 2,048 requests
+  pub few : length run.roster.requests ≤ 2048
+  -- each entry is of a request of the roster and fits, and none has more than 64
+  pub journal : IsWithinRoom (length run.roster.requests) run.journal
+  -- one trace for each request
+  pub all_traced : length run.traces ≡ length run.roster.requests
