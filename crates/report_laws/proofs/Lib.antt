@@ -18,3 +18,4 @@ pub mod TermsTaken
 pub mod Back
 pub mod EachLemmas
 pub mod ReadRuns
+pub mod ReadNames

@@ -19,14 +19,14 @@ use Rattle.auth_report.specs.Reading.{roster_front, names_front, journal_front, 
 use Rattle.report_laws.specs.Read.{HasRoom}
 use Rattle.report_laws.proofs.Fronts.{le_by}
 
-lt_by : (a b : ℕ) → nat_lt a b ≡ true → a < b
+pub lt_by : (a b : ℕ) → nat_lt a b ≡ true → a < b
 lt_by a b h = grind (arith, nat_tests)
 
-equal_by : (a b : ℕ) → (a == b) ≡ true → a ≡ b
+pub equal_by : (a b : ℕ) → (a == b) ≡ true → a ≡ b
 equal_by a b h = grind (arith, nat_tests)
 
 -- what each step keeps, a section keeps
-taken_keeps : {S : Type 0} (step : S → List ℕ → Option S) (P : S → Type 0) → ((s t : S) (line : List ℕ) → P s → step s line ≡ Some t → P t)
+pub taken_keeps : {S : Type 0} (step : S → List ℕ → Option S) (P : S → Type 0) → ((s t : S) (line : List ℕ) → P s → step s line ≡ Some t → P t)
     → (s : S) (all : List (List ℕ)) → P s → P (taken step s all).0
 taken_keeps step P one s [] h = h
 taken_keeps step P one s (line ∷ all) h = by_step step P one s line all (step s line) refl h (λ next k. taken_keeps step P one next all k) where
@@ -40,7 +40,7 @@ if_so_takes : {S : Type 0} (test : Bool) (next t : S) → if_so test next ≡ So
 if_so_takes true next t h = (refl, cc h)
 if_so_takes false next t h = absurd (cc h)
 
-step_takes : {A S : Type 0} (made : Option A) (test : A → Bool) (add : A → S) (t : S) (P : S → Type 0)
+pub step_takes : {A S : Type 0} (made : Option A) (test : A → Bool) (add : A → S) (t : S) (P : S → Type 0)
     → ((thing : A) → made ≡ Some thing → test thing ≡ true → P (add thing)) → (made >>= λ thing. if_so (test thing) (add thing)) ≡ Some t → P t
 step_takes None test add t P holds h = absurd (cc h)
 step_takes (Some thing) test add t P holds h =
@@ -92,15 +92,15 @@ within_room n all = taken_keeps (entry_step n) (λ entries. IsWithinRoom n entri
 
 -- THE WHOLE
 
-abbrev Left : Type 0
+abbrev pub Left : Type 0
 Left = List (List ℕ)
 
 -- the run was made of these lines
-record IsReadFrom (run : Run) : Type 0 where
-  seed : List ℕ
-  all : Left
-  is : (body_front seed all).0 ≡ run
-  traced : length (body_front seed all).0.traces ≡ length (body_front seed all).0.roster.requests
+pub record IsReadFrom (run : Run) : Type 0 where
+  pub seed : List ℕ
+  pub all : Left
+  pub is : (body_front seed all).0 ≡ run
+  pub traced : length (body_front seed all).0.traces ≡ length (body_front seed all).0.roster.requests
 
 last_ok : (got run : Run) (left : Left) → last_line got left ≡ Ok run → got ≡ run
 last_ok got run [] h = cc h
@@ -134,14 +134,14 @@ seed_ok (line ∷ all) run h = by_seed (seed_at line) h where
   by_seed None h = absurd (cc h)
   by_seed (Some seed) h = body_ok seed all (body_front seed all) run refl h
 
-whole_ok : (all : Left) (run : Run) → whole all ≡ Ok run → IsReadFrom run
+pub whole_ok : (all : Left) (run : Run) → whole all ≡ Ok run → IsReadFrom run
 whole_ok [] run h = absurd (cc h)
 whole_ok (line ∷ all) run h = by_test (bytes_eq line (codes "authreport 1\n")) refl where
   by_test : (same : Bool) → bytes_eq line (codes "authreport 1\n") ≡ same → IsReadFrom run
   by_test true e = let is : whole (line ∷ all) ≡ from_seed all = rw e refl in seed_ok all run (sym is ∙ h)
   by_test false e = let is : whole (line ∷ all) ≡ Err (line ∷ all) = rw e refl in absurd (cc (sym is ∙ h))
 
-with_ok : (n : ℕ) (r : Result Run Left) (run : Run) → with_number n r ≡ Ok run → r ≡ Ok run
+pub with_ok : (n : ℕ) (r : Result Run Left) (run : Run) → with_number n r ≡ Ok run → r ≡ Ok run
 with_ok n (Ok got) run h = let same : got ≡ run = cc h in ap Ok same
 with_ok n (Err left) run h = absurd (cc h)
 

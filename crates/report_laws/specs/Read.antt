@@ -1,5 +1,6 @@
 -- What is proved of a run that was read.
 use Rattle.std.specs.Prelude.{◌≡◌, ◌≤◌, length}
+use Rattle.auth_events.specs.Tables.{AreNames, AreFew}
 use Rattle.auth_events.specs.Pages.{IsWithinRoom}
 use Rattle.auth_runs.specs.Runs.{Run}
 
@@ -10,3 +11,8 @@ pub record HasRoom (run : Run) : Type 0 where
   pub journal : IsWithinRoom (length run.roster.requests) run.journal
   -- one trace for each request
   pub all_traced : length run.traces ≡ length run.roster.requests
+
+pub record HasNames (run : Run) : Type 0 where
+  -- no two spaces are equal and no two terms of a space, terms are at home, and their nonces are numbered as they come
+  pub names : AreNames run.names
+  pub few_names : AreFew (length run.roster.requests) run.names

@@ -15,4 +15,6 @@ pub use lines::{
     default_line_reads_back, entry_line_reads_back, event_line_reads_back, request_line_reads_back,
     seed_line_reads_back, space_line_reads_back, terms_line_reads_back, text_line_reads_back,
 };
-pub use whole::{text_is_of_one_run, text_reads_back, what_is_read_has_room};
+pub use whole::{
+    text_is_of_one_run, text_reads_back, what_is_read_has_names, what_is_read_has_room,
+};

@@ -5,7 +5,7 @@ ghost use Rattle.auth_report.specs.Report.{text};
 ghost use Rattle.auth_report.specs.Reading.{report};
 ghost use Rattle.report_laws.specs.Kept.{IsKept};
 ghost use Rattle.report_laws.specs.Ranges.{RunHolds};
-ghost use Rattle.report_laws.specs.Read.{HasRoom};
+ghost use Rattle.report_laws.specs.Read.{HasNames, HasRoom};
 
 use crate::holds::keeps_bytes;
 use crate::run_holds::{
@@ -51,4 +51,10 @@ pub fn text_is_of_one_run(a: &Run, b: &Run)
 pub fn what_is_read_has_room(bytes: &[u8], run: &Run)
     requires { report bytes.now ≡ Ok run.now }
     ensures { HasRoom run.now }
+{}
+
+/// The names of a run that is read are such as a book gives, and keep their limits.
+pub fn what_is_read_has_names(bytes: &[u8], run: &Run)
+    requires { report bytes.now ≡ Ok run.now }
+    ensures { HasNames run.now }
 {}
