@@ -117,15 +117,15 @@ fn recorded(alloc: Global, stream: Bytes, failing: u32) -> Result<RecordedDialer
     ensures dials { IfOk result (λ dialer. ⟦<RecordedDialer as Dialer>⟧.dials dialer ≡ Some []) }
 {
     let mut streams = Items::new(alloc);
-    streams.push(stream).map_err(|_| "memory")?;
+    streams.push(stream)?;
     let mut links = Links::new(alloc);
-    links.push(streams).map_err(|_| "memory")?;
-    let calls = Calls::from_slice(alloc, &[failing]).map_err(|_| "memory")?;
+    links.push(streams)?;
+    let calls = Calls::from_slice(alloc, &[failing])?;
     Ok(RecordedDialer::new(alloc, links, calls))
 }
 
 fn peer(alloc: Global) -> Result<Origin, Fail> {
-    let host = Bytes::from_slice(alloc, b"intra.example").map_err(|_| "memory")?;
+    let host = Bytes::from_slice(alloc, b"intra.example")?;
     Ok(Origin { host, port: 80 })
 }
 
@@ -158,13 +158,11 @@ fn shows_twice(
 
 /// A head of a reply, and a long body behind it.
 fn long(alloc: Global, head: &[u8], tens: u32, behind: &[u8]) -> Result<Bytes, Fail> {
-    let mut stream = Bytes::from_slice(alloc, head).map_err(|_| "memory")?;
+    let mut stream = Bytes::from_slice(alloc, head)?;
     for _ in 0..tens {
-        stream
-            .extend_from_slice(b"0123456789")
-            .map_err(|_| "memory")?;
+        stream.extend_from_slice(b"0123456789")?;
     }
-    stream.extend_from_slice(behind).map_err(|_| "memory")?;
+    stream.extend_from_slice(behind)?;
     Ok(stream)
 }
 
@@ -196,7 +194,7 @@ fn exchange_row(n: u32) -> (&'static [u8], u32, Method, Seen) {
 fn wrong_exchange(alloc: Global) -> Result<Option<u32>, Fail> {
     for n in 0..8 {
         let (stream, failing, method, expected) = exchange_row(n);
-        let stream = Bytes::from_slice(alloc, stream).map_err(|_| "memory")?;
+        let stream = Bytes::from_slice(alloc, stream)?;
         if !shows(alloc, stream, failing, method, expected)? {
             return Ok(Some(n));
         }
@@ -240,7 +238,7 @@ fn bound_links_show_reply_by_reply(rt: HostRuntime) -> Result<(), Fail> {
     let alloc = rt.alloc();
     for n in 0..7 {
         let (stream, failing, first, second) = bound_row(n);
-        let stream = Bytes::from_slice(alloc, stream).map_err(|_| "memory")?;
+        let stream = Bytes::from_slice(alloc, stream)?;
         assert!(rt;
             shows_twice(alloc, stream, failing, first, second)?,
             "row {n}"

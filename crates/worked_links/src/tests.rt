@@ -14,11 +14,11 @@ use std::alloc::Global;
 use std::test::Fail;
 
 fn bytes(alloc: Global, text: &[u8]) -> Result<Bytes, Fail> {
-    Ok(Bytes::from_slice(alloc, text).map_err(|_| "memory")?)
+    Ok(Bytes::from_slice(alloc, text)?)
 }
 
 fn calls(alloc: Global, numbers: &[u32]) -> Result<Calls, Fail> {
-    Ok(Calls::from_slice(alloc, numbers).map_err(|_| "memory")?)
+    Ok(Calls::from_slice(alloc, numbers)?)
 }
 
 /// What a read gives, the front of what was read, and how many have failed.
@@ -66,11 +66,9 @@ fn a_sink_takes_ten_bytes_and_fails_at_its_third_write(rt: HostRuntime) -> Resul
 /// One recorded link, whose peer sends a status line.
 fn recorded(alloc: Global) -> Result<Links, Fail> {
     let mut streams = Items::new(alloc);
-    streams
-        .push(bytes(alloc, b"HTTP/1.1 200 OK")?)
-        .map_err(|_| "memory")?;
+    streams.push(bytes(alloc, b"HTTP/1.1 200 OK")?)?;
     let mut links = Links::new(alloc);
-    links.push(streams).map_err(|_| "memory")?;
+    links.push(streams)?;
     Ok(links)
 }
 
@@ -128,7 +126,7 @@ fn a_dialer_gives_the_recorded_stream_and_fails_at_its_fourth_call(
 
 /// A Basic space of a server, with this realm.
 fn space(alloc: Global, realm: &[u8]) -> Result<Space, Fail> {
-    let partition = Partition::new(alloc, b"main").map_err(|_| "memory")?;
+    let partition = Partition::new(alloc, b"main")?;
     let host = bytes(alloc, b"intra.example")?;
     let site = Site {
         partition,
@@ -139,7 +137,7 @@ fn space(alloc: Global, realm: &[u8]) -> Result<Space, Fail> {
 }
 
 fn identity(alloc: Global, user: &[u8]) -> Result<Identity, Fail> {
-    Ok(Identity::new(alloc, user, b"open sesame").map_err(|_| "memory")?)
+    Ok(Identity::new(alloc, user, b"open sesame")?)
 }
 
 /// What a prompter answers: the user, `cancel` or `failed`.
@@ -162,14 +160,10 @@ fn answers(alloc: Global) -> Result<Answers, Fail> {
     let mut answers = Answers::new(alloc);
     for (realm, user) in [(b"x", b"Aladdin"), (b"y", b"Mufasa "), (b"x", b"Morgana")] {
         let given = Some(identity(alloc, user)?);
-        answers
-            .push((space(alloc, realm)?, given))
-            .map_err(|_| "memory")?;
+        answers.push((space(alloc, realm)?, given))?;
     }
     let given = Some(identity(alloc, b"Sindbad")?);
-    answers
-        .push_times((space(alloc, b"z")?, given), 2048)
-        .map_err(|_| "memory")?;
+    answers.push_times((space(alloc, b"z")?, given), 2048)?;
     Ok(answers)
 }
 
@@ -213,13 +207,11 @@ fn a_prompter_answers_by_space_and_ordinal(rt: HostRuntime) -> Result<(), Fail> 
 /// A provider of one request's steps: a token, a failure and the end of the context.
 fn provider(alloc: Global) -> Result<ScriptTokens, Fail> {
     let mut listed = Items::new(alloc);
-    listed
-        .push(Step::Token(bytes(alloc, b"YII=")?))
-        .map_err(|_| "memory")?;
-    listed.push(Step::Failed).map_err(|_| "memory")?;
-    listed.push(Step::Done).map_err(|_| "memory")?;
+    listed.push(Step::Token(bytes(alloc, b"YII=")?))?;
+    listed.push(Step::Failed)?;
+    listed.push(Step::Done)?;
     let mut steps = Steps::new(alloc);
-    steps.push(listed).map_err(|_| "memory")?;
+    steps.push(listed)?;
     Ok(ScriptTokens::new(alloc, steps))
 }
 
