@@ -19,3 +19,4 @@ pub mod Back
 pub mod EachLemmas
 pub mod ReadRuns
 pub mod ReadNames
+pub mod ReadTraces

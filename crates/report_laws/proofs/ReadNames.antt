@@ -33,7 +33,7 @@ none_by (Some x) h = absurd (false≢true h)
 
 -- SPACES
 
-made_by : {A : Type 0} (made : Option A) (written : A → List ℕ) (line : List ℕ) (x : A) → (made >>= if_written written line) ≡ Some x → made ≡ Some x
+pub made_by : {A : Type 0} (made : Option A) (written : A → List ℕ) (line : List ℕ) (x : A) → (made >>= if_written written line) ≡ Some x → made ≡ Some x
 made_by None written line x h = absurd (cc h)
 made_by (Some made) written line x h = by_test (bytes_eq (written made) line) refl where
   by_test : (same : Bool) → bytes_eq (written made) line ≡ same → Some made ≡ Some x

@@ -3,6 +3,7 @@ use Rattle.std.specs.Prelude.{◌≡◌, ◌≤◌, length}
 use Rattle.auth_events.specs.Tables.{AreNames, AreFew}
 use Rattle.auth_events.specs.Pages.{IsWithinRoom}
 use Rattle.auth_runs.specs.Runs.{Run}
+use Rattle.report_laws.specs.Kept.{AreTraces}
 
 pub record HasRoom (run : Run) : Type 0 where
   -- at most 2,048 requests
@@ -16,3 +17,7 @@ pub record HasNames (run : Run) : Type 0 where
   -- no two spaces are equal and no two terms of a space, terms are at home, and their nonces are numbered as they come
   pub names : AreNames run.names
   pub few_names : AreFew (length run.roster.requests) run.names
+
+-- each trace is whole, its calls are its request's entries in order, and its replies are tidy
+pub record HasTraces (run : Run) : Type 0 where
+  pub traces : AreTraces run.journal 1 run.traces

@@ -17,4 +17,5 @@ pub use lines::{
 };
 pub use whole::{
     text_is_of_one_run, text_reads_back, what_is_read_has_names, what_is_read_has_room,
+    what_is_read_has_traces,
 };

@@ -5,7 +5,7 @@ ghost use Rattle.auth_report.specs.Report.{text};
 ghost use Rattle.auth_report.specs.Reading.{report};
 ghost use Rattle.report_laws.specs.Kept.{IsKept};
 ghost use Rattle.report_laws.specs.Ranges.{RunHolds};
-ghost use Rattle.report_laws.specs.Read.{HasNames, HasRoom};
+ghost use Rattle.report_laws.specs.Read.{HasNames, HasRoom, HasTraces};
 
 use crate::holds::keeps_bytes;
 use crate::run_holds::{
@@ -57,4 +57,11 @@ pub fn what_is_read_has_room(bytes: &[u8], run: &Run)
 pub fn what_is_read_has_names(bytes: &[u8], run: &Run)
     requires { report bytes.now ≡ Ok run.now }
     ensures { HasNames run.now }
+{}
+
+/// Each trace of a run that is read is whole, its calls are its request's entries in order, only
+/// challenges have fields, and no challenge has infos.
+pub fn what_is_read_has_traces(bytes: &[u8], run: &Run)
+    requires { report bytes.now ≡ Ok run.now }
+    ensures { HasTraces run.now }
 {}
