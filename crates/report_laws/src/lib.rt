@@ -1,7 +1,9 @@
 //! What holds of the reader of reports: each line that is written for a thing is read as that
-//! thing, and the text of a run as that run, where the run keeps what `IsKept` says. That every run
-//! which is read keeps it isn't proved, nor that no run's text begins with the lines up to the one
-//! that is told. Each law is the contract of a function that changes nothing and answers nothing.
+//! thing, the text of a run is read as that run, where the run keeps what `IsKept` says, and a run
+//! that is read keeps that of its names, journal and traces. It isn't proved that its places are
+//! those of their texts and its seed has 32 bytes, nor that no run's text begins with the lines up
+//! to the one that is told. Each law is the contract of a function that changes nothing and answers
+//! nothing.
 #![tactic(auto)]
 
 mod entry_holds;
