@@ -1,8 +1,9 @@
 -- Links from turn to turn: the machine's own alone are open and dialed.
-use Rattle.std.proofs.Common.{◌≡◌, ℕ, ◌+◌, ◌==◌, ◌<◌, Bool, true, false, not, ◌||◌, IsTrue, List, [], ◌∷◌, ◌++◌, Option, Some, None, IfSome, is_some, unwrap_or, option_map, refl, sym, ap, ◌∙◌, subst, arith, if◌then◌else◌}
+use Rattle.std.proofs.Common.{◌≡◌, ℕ, ◌+◌, ◌-◌, ◌*◌, ◌==◌, ◌<◌, ◌≤◌, Bool, true, false, not, ◌||◌, IsTrue, List, [], ◌∷◌, ◌++◌, length, Option, Some, None, IfSome, is_some, unwrap_or, option_map, refl, sym, ap, ◌∙◌, subst, arith, if◌then◌else◌}
 use Rattle.std.proofs.lemmas.Grind.{common_steps}
 use Rattle.std.proofs.lemmas.Bool.{false≢true, eqb-true}
 use Rattle.std.proofs.lemmas.List.{append-nil}
+use Rattle.auth_runs.specs.declared.event.Event.{Event}
 use Rattle.spaces.specs.declared.site.Target.{Target}
 use Rattle.spaces.specs.declared.site.Target.TheVariants.{Server, Proxy, Socks}
 use Rattle.spaces.specs.declared.place.Origin.{Origin}
@@ -21,7 +22,7 @@ use Rattle.request_machine.specs.Changed.{holding}
 use Rattle.request_machine.specs.Needs.{need_at, need_of}
 use Rattle.request_machine.specs.Told.{IsLacking}
 use Rattle.request_machine.specs.Kept.{Kept, IsLinkOpen}
-use Rattle.request_machine.specs.Turns.{next_link, IsLinkKept, opened_without, is_asking, starts_left, turns_at, turns_left}
+use Rattle.request_machine.specs.Turns.{next_link, IsLinkKept, opened_without, is_asking, turns_at, turns_left}
 use Rattle.request_machine.specs.Linked.{Way, way, goes_on, is_away, is_ending, Line, line, IsLinkedOn, IsLinked, nth_link, IsOnlyLink, AreDialsOf, of_others, IsDriven}
 use Rattle.request_machine.proofs.Dialing.{grown_none}
 use Rattle.request_machine.specs.Linked.Way.{Onward, Asking, Reading, Ending}
@@ -348,21 +349,50 @@ driven_reading m same k n link before between opened dials_before dials_between 
 
 -- TURNS
 
-some_left : (stage : Stage) (dialed : Bool) (starts : ℕ) → 0 < turns_at stage dialed starts
-some_left (Learn t piece) dialed starts = omega arith
-some_left Go true starts = omega arith
-some_left Go false starts = omega arith
-some_left (Read link) dialed starts = omega arith
-some_left (NextNonce Proxy c) dialed starts = omega arith
-some_left _ dialed starts = omega arith
+some_left : (stage : Stage) → 0 < turns_at stage
+some_left (Learn t piece) = omega arith
+some_left (NextNonce Proxy c) = omega arith
+some_left _ = omega arith
+
+two_at_most : (stage : Stage) → turns_at stage ≤ 2
+two_at_most (Learn t piece) = omega arith
+two_at_most (NextNonce Proxy c) = omega arith
+two_at_most _ = omega arith
+
+-- what is left where nothing is asked
+idle_left : (m : Kept) → is_asking m ≡ false → turns_left m ≡ (256 - length m.past) * 2 + turns_at m.stage
+idle_left m idle = ap (λ b. if b then 0 else (256 - length m.past) * 2 + turns_at m.stage) idle
+
+most_left : (m : Kept) → turns_left m ≤ (256 - length m.past) * 2 + 2
+most_left m = by (is_asking m) ((256 - length m.past) * 2) (turns_at m.stage) (two_at_most m.stage)
+  where
+    by : (b : Bool) (k t : ℕ) → t ≤ 2 → (if b then 0 else k + t) ≤ k + 2
+    by true k t few = omega arith
+    by false k t few = omega (arith, few)
 
 -- a machine that asks has no turn left
 pub asks_nearer : (m n : Kept) → is_asking n ≡ true → is_asking m ≡ false → turns_left n < turns_left m
 asks_nearer m n asks idle =
-    let none : turns_left n ≡ 0 = ap (λ b. if b then 0 else turns_at n.stage n.is_dialed (starts_left n)) asks in
-    let left : turns_left m ≡ turns_at m.stage m.is_dialed (starts_left m) = ap (λ b. if b then 0 else turns_at m.stage m.is_dialed (starts_left m)) idle in
-    let some : 0 < turns_at m.stage m.is_dialed (starts_left m) = some_left m.stage m.is_dialed (starts_left m) in
+    let none : turns_left n ≡ 0 = ap (λ b. if b then 0 else (256 - length n.past) * 2 + turns_at n.stage) asks in
+    let left : turns_left m ≡ (256 - length m.past) * 2 + turns_at m.stage = idle_left m idle in
+    let some : 0 < turns_at m.stage = some_left m.stage in
     omega (arith, none, left, some)
+
+-- an event was made
+pub pushed_nearer : (m n : Kept) (event : Event) → n.past ≡ event ∷ m.past → length m.past < 256 → is_asking m ≡ false → turns_left n < turns_left m
+pushed_nearer m n event is few idle =
+    let left : turns_left m ≡ (256 - length m.past) * 2 + turns_at m.stage = idle_left m idle in
+    let some : 0 < turns_at m.stage = some_left m.stage in
+    let most : turns_left n ≤ (256 - length n.past) * 2 + 2 = most_left n in
+    let longer : length n.past ≡ length (event ∷ m.past) = ap length is in
+    omega (arith, left, some, most, longer, few)
+
+-- the stage alone changed
+pub staged_nearer : (m n : Kept) → n.past ≡ m.past → is_asking m ≡ false → is_asking n ≡ false → turns_at n.stage < turns_at m.stage → turns_left n < turns_left m
+staged_nearer m n same idle still less =
+    let before : turns_left m ≡ (256 - length m.past) * 2 + turns_at m.stage = idle_left m idle in
+    let after : turns_left n ≡ (256 - length m.past) * 2 + turns_at n.stage = idle_left n still ∙ ap (λ past. (256 - length past) * 2 + turns_at n.stage) same in
+    omega (arith, before, after, less)
 
 -- a machine that learns of what it holds asks
 pub learns : (m : Kept) (t : Target) (piece : Piece) → IsLacking piece (holding m t) → is_asking (record m { stage = Learn t piece }) ≡ true
@@ -379,16 +409,16 @@ behind_ends before Server c = refl
 behind_ends before Socks c = refl
 
 -- and it is nearer
-behind_at : (m n : Kept) (t : Target) (c : Closing) → n.stage ≡ stage_behind t c → is_asking m ≡ false → m.stage ≡ NextNonce t c → turns_left n < turns_left m
-behind_at m n Proxy c now idle was =
-    let after : turns_left n ≡ 1 = ap (λ st. if is_some (need_at n st) then 0 else turns_at st n.is_dialed (starts_left n)) now in
-    let before : turns_left m ≡ 2 = ap (λ st. if is_some (need_at m st) then 0 else turns_at st m.is_dialed (starts_left m)) was in
-    omega (arith, after, before)
-behind_at m n Server c now idle was = asks_nearer m n (ap (λ st. is_some (need_at n st)) now) idle
-behind_at m n Socks c now idle was = asks_nearer m n (ap (λ st. is_some (need_at n st)) now) idle
+behind_at : (m n : Kept) (t : Target) (c : Closing) → n.past ≡ m.past → n.stage ≡ stage_behind t c → is_asking m ≡ false → m.stage ≡ NextNonce t c → turns_left n < turns_left m
+behind_at m n Proxy c same now idle was =
+    let after : turns_at n.stage ≡ 1 = ap turns_at now in
+    let before : turns_at m.stage ≡ 2 = ap turns_at was in
+    staged_nearer m n same idle (ap (λ st. is_some (need_at n st)) now) (omega (arith, after, before))
+behind_at m n Server c same now idle was = asks_nearer m n (ap (λ st. is_some (need_at n st)) now) idle
+behind_at m n Socks c same now idle was = asks_nearer m n (ap (λ st. is_some (need_at n st)) now) idle
 
-pub behind_nearer : (m n : Kept) (t : Target) (c : Closing) → n.stage ≡ stage_behind t c → m.stage ≡ NextNonce t c → turns_left n < turns_left m
-behind_nearer m n t c now was = behind_at m n t c now (ap (λ st. is_some (need_at m st)) was) was
+pub behind_nearer : (m n : Kept) (t : Target) (c : Closing) → n.past ≡ m.past → n.stage ≡ stage_behind t c → m.stage ≡ NextNonce t c → turns_left n < turns_left m
+behind_nearer m n t c same now was = behind_at m n t c same now (ap (λ st. is_some (need_at m st)) was) was
 
 pub next_nearer : (m n : Kept) (t : Target) (c : Closing) → is_asking n ≡ true → m.stage ≡ NextNonce t c → turns_left n < turns_left m
 next_nearer m n t c asks was = asks_nearer m n asks (ap (λ st. is_some (need_at m st)) was)

@@ -1,59 +1,16 @@
 -- How turns bring a request nearer to what it asks for, on its way to a head.
-use Rattle.std.proofs.Common.{◌≡◌, ℕ, ◌+◌, ◌<◌, nat_le, Bool, true, false, List, Option, Some, None, IfSome, IsSome, is_some, option_map, refl, sym, ap, ◌∙◌, arith, if◌then◌else◌}
-use Rattle.std.proofs.lemmas.Bool.{false≢true}
+use Rattle.std.proofs.Common.{◌≡◌, ℕ, ◌+◌, ◌-◌, ◌*◌, ◌<◌, nat_le, Bool, true, false, List, ◌∷◌, length, None, is_some, refl, ap, ◌∙◌, arith, if◌then◌else◌}
 use Rattle.spaces.specs.declared.site.Target.{Target}
-use Rattle.spaces.specs.declared.site.Target.TheVariants.{Server, Proxy, Socks}
 use Rattle.auth_events.specs.declared.journal.Gift.{Gift}
 use Rattle.auth_runs.specs.declared.event.Event.{Event}
 use Rattle.request_machine.specs.declared.stage.Closing.{Closing}
-use Rattle.request_machine.specs.Changed.{holding, put_held}
-use Rattle.request_machine.specs.Contexts.{with_context, stage_refused}
-use Rattle.request_machine.specs.Replies.{stage_again}
-use Rattle.request_machine.specs.Work.{untold}
-use Rattle.request_machine.proofs.Driving.{asks_nearer}
-use Rattle.request_machine.specs.declared.holding.Holding.{Holding}
 use Rattle.request_machine.specs.declared.stage.Piece.{Piece}
-use Rattle.request_machine.specs.declared.stage.Stage.TheVariants.{Go, Learn, Close, Reject}
+use Rattle.request_machine.specs.declared.stage.Stage.TheVariants.{Go, Learn, Read, Close, Reject}
+use Rattle.request_machine.specs.Contexts.{stage_refused}
 use Rattle.request_machine.specs.Kept.{Kept}
 use Rattle.request_machine.specs.Needs.{need_at}
-use Rattle.request_machine.specs.Turns.{is_asking, starts_of, starts_left, turns_at, turns_left}
-
-abbrev on_the_way : Bool → ℕ → ℕ
-on_the_way dialed starts = (if dialed then 4 else 5) + starts
-
--- what is left on the way to a head
-way_left : (m : Kept) → m.stage ≡ Go → turns_left m ≡ on_the_way m.is_dialed (starts_left m)
-way_left m was = ap (λ st. if is_some (need_at m st) then 0 else turns_at st m.is_dialed (starts_left m)) was
-
--- a link was dialed
-pub dialed_nearer : (m n : Kept) → m.stage ≡ Go → m.is_dialed ≡ false → n.stage ≡ Go → n.is_dialed ≡ true → starts_left n ≡ starts_left m → turns_left n < turns_left m
-dialed_nearer m n was undialed now dialed starts =
-    let before : turns_left m ≡ 5 + starts_left m = way_left m was ∙ ap (λ d. on_the_way d (starts_left m)) undialed in
-    let after : turns_left n ≡ 4 + starts_left m = way_left n now ∙ ap (λ d. on_the_way d (starts_left n)) dialed ∙ ap (λ k. 4 + k) starts in
-    omega (arith, before, after)
-
--- a context began
-pub begun_nearer : (m n : Kept) → m.stage ≡ Go → n.stage ≡ Go → n.is_dialed ≡ m.is_dialed → starts_left n + 1 ≡ starts_left m → turns_left n < turns_left m
-begun_nearer m n was now same starts =
-    let before : turns_left m ≡ on_the_way m.is_dialed (starts_left m) = way_left m was in
-    let after : turns_left n ≡ on_the_way m.is_dialed (starts_left n) = way_left n now ∙ ap (λ d. on_the_way d (starts_left n)) same in
-    by m.is_dialed (starts_left n) (starts_left m) (turns_left n) (turns_left m) before after starts
-  where
-    by : (d : Bool) (k j a b : ℕ) → b ≡ on_the_way d j → a ≡ on_the_way d k → k + 1 ≡ j → a < b
-    by true k j a b before after less = omega (arith, before, after, less)
-    by false k j a b before after less = omega (arith, before, after, less)
-
--- what was to be told is held no more
-pub resumed_nearer : (m : Kept) (t : Target) (piece : Piece) → m.stage ≡ Learn t piece → is_asking m ≡ false → turns_left (record m { stage = Go }) < turns_left m
-resumed_nearer m t piece was idle =
-    let before : turns_left m ≡ 6 + starts_left m = ap (λ b. if b then 0 else turns_at m.stage m.is_dialed (starts_left m)) idle ∙ ap (λ st. turns_at st m.is_dialed (starts_left m)) was in
-    by m.is_dialed (starts_left m) (turns_left m) before
-  where
-    by : (d : Bool) (k b : ℕ) → b ≡ 6 + k → on_the_way d k < b
-    by true k b before = omega (arith, before)
-    by false k b before = omega (arith, before)
-
--- A STEP OF THE PROVIDER
+use Rattle.request_machine.specs.Turns.{is_asking, turns_at, turns_left}
+use Rattle.request_machine.proofs.Driving.{asks_nearer, pushed_nearer, staged_nearer}
 
 pub go_idle : (m : Kept) → m.stage ≡ Go → is_asking m ≡ false
 go_idle m was = ap (λ st. is_some (need_at m st)) was
@@ -62,32 +19,36 @@ go_idle m was = ap (λ st. is_some (need_at m st)) was
 pub go_nearer : (m n : Kept) → m.stage ≡ Go → is_asking n ≡ true → turns_left n < turns_left m
 go_nearer m n was asks = asks_nearer m n asks (go_idle m was)
 
-one_less : (token : List ℕ) (o : Option Holding) → IsSome o → IfSome o (λ h. h.context ≡ None) → starts_of (option_map (with_context token) o) + 1 ≡ starts_of o
-one_less token None some free = absurd (false≢true some)
-one_less token (Some h) some free = sym (ap untold free)
+-- and so is what makes an event
+pub gone_nearer : (m n : Kept) (event : Event) → n.past ≡ event ∷ m.past → length m.past < 256 → m.stage ≡ Go → turns_left n < turns_left m
+gone_nearer m n event is few was = pushed_nearer m n event is few (go_idle m was)
 
--- the context that is held for the target began
-pub token_nearer : (m : Kept) (t : Target) (token : List ℕ) (past : List Event) → m.stage ≡ Go → IsSome (holding m t) → IfSome (holding m t) (λ h. h.context ≡ None)
-    → turns_left (record (put_held t (option_map (with_context token) (holding m t)) m) { past = past; stage = Go }) < turns_left m
-token_nearer m Proxy token past was some free =
-    let one = one_less token m.proxy some free in
-    begun_nearer m (record m { proxy = option_map (with_context token) m.proxy; past = past; stage = Go }) was refl refl (omega (arith, one))
-token_nearer m Server token past was some free =
-    let one = one_less token m.server some free in
-    begun_nearer m (record m { server = option_map (with_context token) m.server; past = past; stage = Go }) was refl refl (omega (arith, one))
-token_nearer m Socks token past was some free = absurd (false≢true some)
+-- what was to be told is held no more
+pub resumed_nearer : (m : Kept) (t : Target) (piece : Piece) → m.stage ≡ Learn t piece → is_asking m ≡ false → turns_left (record m { stage = Go }) < turns_left m
+resumed_nearer m t piece was idle =
+    let before : turns_at m.stage ≡ 2 = ap turns_at was in
+    staged_nearer m (record m { stage = Go }) refl idle refl (omega (arith, before))
 
--- the last reply's challenges are looked at again
-pub again_nearer : (m n : Kept) (challenged : Option Target) → m.stage ≡ Go → n.stage ≡ stage_again challenged → turns_left n < turns_left m
-again_nearer m n None was now = go_nearer m n was (ap (λ st. is_some (need_at n st)) now)
-again_nearer m n (Some t) was now =
-    let after : turns_left n ≡ 1 = ap (λ st. if is_some (need_at n st) then 0 else turns_at st n.is_dialed (starts_left n)) now in
-    let before : turns_left m ≡ on_the_way m.is_dialed (starts_left m) = way_left m was in
-    by m.is_dialed (starts_left m) (turns_left n) (turns_left m) after before
-  where
-    by : (d : Bool) (k a b : ℕ) → a ≡ 1 → b ≡ on_the_way d k → a < b
-    by true k a b after before = omega (arith, after, before)
-    by false k a b after before = omega (arith, after, before)
+-- A READING
+
+read_idle : (m : Kept) (link : ℕ) → m.stage ≡ Read link → is_asking m ≡ false
+read_idle m link was = ap (λ st. is_some (need_at m st)) was
+
+pub read_nearer : (m n : Kept) (link : ℕ) → m.stage ≡ Read link → is_asking n ≡ true → turns_left n < turns_left m
+read_nearer m n link was asks = asks_nearer m n asks (read_idle m link was)
+
+pub replied_nearer : (m n : Kept) (link : ℕ) (event : Event) → n.past ≡ event ∷ m.past → length m.past < 250 → m.stage ≡ Read link → turns_left n < turns_left m
+replied_nearer m n link event is room was = pushed_nearer m n event is (omega (arith, room)) (read_idle m link was)
+
+-- the link was closed behind it
+pub closed_nearer : (m k n : Kept) (link : ℕ) → m.stage ≡ Read link → k ≡ record m { link = None } → turns_left n < turns_left k → turns_left n < turns_left m
+closed_nearer m k n link was closed less =
+    let before : turns_left m ≡ (256 - length m.past) * 2 + 1 = ap (λ st. if is_some (need_at m st) then 0 else (256 - length m.past) * 2 + turns_at st) was in
+    let after : turns_left k ≡ (256 - length m.past) * 2 + 1 =
+    ap turns_left closed ∙ ap (λ st. if is_some (need_at (record m { link = None }) st) then 0 else (256 - length m.past) * 2 + turns_at st) was in
+    omega (arith, before, after, less)
+
+-- A STEP OF THE PROVIDER
 
 -- a refusal is told to the book
 pub refused_asks : (m : Kept) (rounds : ℕ) (t : Target) (gift : Gift) (c : Closing) → m.stage ≡ stage_refused rounds t gift c → is_asking m ≡ true

@@ -1,5 +1,5 @@
 -- Turns of a machine: what it does by itself, one after another, until it asks for something.
-use Rattle.std.specs.Prelude.{ℕ, ◌≡◌, ◌⊎◌, ◌+◌, Bool, true, false, List, Some, None, is_some, if◌then◌else◌}
+use Rattle.std.specs.Prelude.{ℕ, ◌≡◌, ◌⊎◌, ◌+◌, ◌-◌, ◌*◌, Bool, true, false, List, length, Some, None, is_some, if◌then◌else◌}
 use Rattle.std.specs.declared.option.Option.{Option}
 use Rattle.link_trait.specs.declared.links.LinkName.{LinkName}
 use Rattle.link_trait.specs.Links.{has_link, without_link}
@@ -7,9 +7,7 @@ use Rattle.spaces.specs.declared.site.Target.TheVariants.{Proxy}
 use Rattle.request_machine.specs.declared.stage.Stage.{Stage}
 use Rattle.request_machine.specs.declared.stage.Stage.TheVariants.{Go, Learn, Choose, Read, Ask, NextNonce, End, Spent, SpentOver}
 use Rattle.request_machine.specs.Kept.{Kept}
-use Rattle.request_machine.specs.declared.holding.Holding.{Holding}
 use Rattle.request_machine.specs.Needs.{need_at}
-use Rattle.request_machine.specs.Work.{untold}
 
 abbrev pub next_link : Kept → LinkName
 next_link m = record { request = m.number; nth = m.links + 1 }
@@ -46,22 +44,12 @@ is_going (End outcome) = true
 is_going SpentOver = true
 is_going stage = false
 
--- one, where a context is still to begin for what is held
-abbrev pub starts_of : Option Holding → ℕ
-starts_of None = 0
-starts_of (Some h) = untold h.context
-
-abbrev pub starts_left : Kept → ℕ
-starts_left m = starts_of m.proxy + starts_of m.server
-
--- with so many contexts that are still to begin
-abbrev pub turns_at : Stage → Bool → ℕ → ℕ
-turns_at (Learn t piece) dialed starts = 6 + starts
-turns_at Go dialed starts = (if dialed then 4 else 5) + starts
-turns_at (Read link) dialed starts = 3
-turns_at (NextNonce Proxy c) dialed starts = 2
-turns_at stage dialed starts = 1
+-- from these stages a turn leads to where an event is made or something is asked; any other turn makes an event, or asks
+abbrev pub turns_at : Stage → ℕ
+turns_at (Learn t piece) = 2
+turns_at (NextNonce Proxy c) = 2
+turns_at stage = 1
 
 -- at most so many turns are left until the machine asks
 abbrev pub turns_left : Kept → ℕ
-turns_left m = if is_asking m then 0 else turns_at m.stage m.is_dialed (starts_left m)
+turns_left m = if is_asking m then 0 else (256 - length m.past) * 2 + turns_at m.stage

@@ -20,7 +20,6 @@ impl Machine {
     ghost use Rattle.request_machine.specs.Changed.{holding};
     ghost use Rattle.request_machine.specs.Chosen.{decision_at};
     ghost use Rattle.request_machine.specs.Kept.{Ties};
-    ghost use Rattle.request_machine.specs.Turns.{turns_left};
     ghost use Rattle.request_machine.specs.Linked.{line, way, is_away};
     ghost use Rattle.request_machine.specs.Told.{IsReady, held_last};
 
@@ -35,7 +34,6 @@ impl Machine {
         ensures past { self.new.past ≡ Event.Replied link reply ∷ self.old.past }
         ensures kept { line self.new ≡ line self.old }
         ensures away { IsTrue (is_away (way self.new.stage)) }
-        ensures left { turns_left self.new < 3 }
         ensures free { is_waiting self.new.stage ≡ false }
         ensures ties { (s : Setting) → decision_at self.old s.request reply target ≡ None
             → challenged s reply ≡ Some target → Ties s self.old → Ties s self.new }
@@ -58,7 +56,6 @@ impl Machine {
         ensures past { self.new.past ≡ Event.Replied link reply ∷ self.old.past }
         ensures kept { line self.new ≡ line self.old }
         ensures away { IsTrue (is_away (way self.new.stage)) }
-        ensures left { turns_left self.new < 3 }
         ensures free { is_waiting self.new.stage ≡ false }
         ensures ties { (s : Setting) → decision_at self.old s.request reply target
             ≡ Some (Decision.Rejects gift)
@@ -81,7 +78,6 @@ impl Machine {
         ensures past { self.new.past ≡ Event.Replied link reply ∷ self.old.past }
         ensures kept { line self.new ≡ line self.old }
         ensures away { IsTrue (is_away (way self.new.stage)) }
-        ensures left { turns_left self.new < 3 }
         ensures free { is_waiting self.new.stage ≡ false }
         ensures ties { (s : Setting) → decision_at self.old s.request reply target
             ≡ Some (Decision.Renews gift terms)
@@ -106,7 +102,6 @@ impl Machine {
         ensures past { self.new.past ≡ Event.Replied link reply ∷ self.old.past }
         ensures kept { line self.new ≡ line self.old }
         ensures away { IsTrue (is_away (way self.new.stage)) }
-        ensures left { turns_left self.new < 3 }
         ensures free { is_waiting self.new.stage ≡ false }
         ensures ties { (s : Setting) → decision_at self.old s.request reply target
             ≡ Some (Decision.Continues peer)
@@ -143,7 +138,6 @@ impl Machine {
         ensures past { self.new.past ≡ Event.Replied link reply ∷ self.old.past }
         ensures kept { line self.new ≡ line self.old }
         ensures away { IsTrue (is_away (way self.new.stage)) }
-        ensures left { turns_left self.new < 3 }
         ensures free { is_waiting self.new.stage ≡ false }
         ensures ties { (s : Setting) → is_some (decision_at self.old s.request reply target)
             ≡ decides → challenged s reply ≡ Some target → Ties s self.old → Ties s self.new }
@@ -176,7 +170,6 @@ impl Machine {
         ensures past { self.new.past ≡ Event.Replied link reply ∷ self.old.past }
         ensures kept { line self.new ≡ line self.old }
         ensures away { IsTrue (is_away (way self.new.stage)) }
-        ensures left { turns_left self.new < 3 }
         ensures free { is_waiting self.new.stage ≡ false }
         ensures ties { (s : Setting) → decision_at self.old s.request reply target ≡ decision
             → challenged s reply ≡ Some target → Ties s self.old → Ties s self.new }

@@ -29,7 +29,7 @@ impl Machine {
     ghost use Rattle.request_machine.specs.Linked.{line, way, is_away};
     ghost use Rattle.request_machine.specs.Work.{is_waiting};
     ghost use Rattle.request_machine.specs.Linked.{is_ending};
-    ghost use Rattle.request_machine.specs.Turns.{is_asking, turns_left};
+    ghost use Rattle.request_machine.specs.Turns.{is_asking};
 
     /// The provider gave a token, which the context goes on behind.
     pub(crate) fn stepped_token(&mut self, target: Target, token: Bytes, live: Context)
@@ -40,9 +40,6 @@ impl Machine {
             ≡ Event.Stepped target (StepSeen.Token token) ∷ self.old.past }
         ensures kept { line self.new ≡ line self.old }
         ensures stage { self.new.stage ≡ Stage.Go }
-        ensures nearer { self.old.stage ≡ Stage.Go
-            → IfSome (holding self.old target) (λ held. held.context ≡ None)
-            → turns_left self.new < turns_left self.old }
         ensures ties { (s : Setting) (asking : Asking) → IsBefore s self.old target asking
             → Ties s self.old → Ties s self.new }
     {
@@ -91,7 +88,6 @@ impl Machine {
         ensures past { self.new.past
             ≡ Event.Stepped target StepSeen.NoMechanism ∷ self.old.past }
         ensures kept { line self.new ≡ line self.old }
-        ensures nearer { self.old.stage ≡ Stage.Go → turns_left self.new < turns_left self.old }
         ensures away { IsTrue (is_away (way self.new.stage)) }
         ensures free { is_waiting self.new.stage ≡ false }
         ensures ties { (s : Setting) (asking : Asking) → IsBefore s self.old target asking

@@ -39,7 +39,7 @@ impl Machine {
     ghost use Rattle.request_machine.specs.Provided.{IsStepMore, IsTouchedBySteps, TellsSteps};
     ghost use Rattle.request_machine.specs.Provided.{shown, step_faults, steps};
     ghost use Rattle.request_machine.specs.Heads.{bound_told};
-    ghost use Rattle.request_machine.specs.Turns.{is_asking, starts_left, turns_left};
+    ghost use Rattle.request_machine.specs.Turns.{is_asking, turns_left};
 
     /// The next link was dialed.
     #[tactic(auto, using(crate::proofs::Sending::dialed_ties))]
@@ -55,7 +55,6 @@ impl Machine {
         ensures stage { self.new.stage ≡ Stage.Go }
         ensures line { line self.new
             ≡ record (line self.old) { links = self.old.links + 1; is_dialed = true } }
-        ensures starts { starts_left self.new ≡ starts_left self.old }
         ensures ties { (s : Setting) → Ties s self.old → Ties s self.new }
     {
         let link = self.links + 1;

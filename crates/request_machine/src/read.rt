@@ -39,7 +39,7 @@ impl Machine {
     ghost use Rattle.request_machine.specs.Driven.{insides};
     ghost use Rattle.request_machine.specs.Provided.{steps};
     ghost use Rattle.request_machine.specs.Kept.{Ties, IsTied, IsLinkOpen};
-    ghost use Rattle.request_machine.specs.Turns.{opened_without, turns_left};
+    ghost use Rattle.request_machine.specs.Turns.{is_asking, opened_without, turns_left};
     ghost use Rattle.request_machine.specs.Linked.{line, way, is_away, IsLinked, IsOnlyLink};
     ghost use Rattle.request_machine.specs.Linked.{AreDialsOf, IsDriven};
 
@@ -122,7 +122,7 @@ impl Machine {
         ensures past { self.new.past ≡ Event.ReadFailed link count ∷ self.old.past }
         ensures kept { line self.new ≡ line self.old }
         ensures away { IsTrue (is_away (way self.new.stage)) }
-        ensures left { turns_left self.new < 3 }
+        ensures asks { is_asking self.new ≡ true }
         ensures free { is_waiting self.new.stage ≡ false }
         ensures ties { (s : Setting) → Ties s self.old → Ties s self.new }
     {
@@ -138,7 +138,7 @@ impl Machine {
         ensures past { self.new.past ≡ Event.Broken link fault ∷ self.old.past }
         ensures kept { line self.new ≡ line self.old }
         ensures away { IsTrue (is_away (way self.new.stage)) }
-        ensures left { turns_left self.new < 3 }
+        ensures asks { is_asking self.new ≡ true }
         ensures free { is_waiting self.new.stage ≡ false }
         ensures ties { (s : Setting) → Ties s self.old → Ties s self.new }
     {
@@ -155,7 +155,6 @@ impl Machine {
         ensures past { self.new.past ≡ Event.Replied link reply ∷ self.old.past }
         ensures kept { line self.new ≡ line self.old }
         ensures away { IsTrue (is_away (way self.new.stage)) }
-        ensures left { turns_left self.new < 3 }
         ensures free { is_waiting self.new.stage ≡ false }
         ensures ties { (s : Setting) → challenged s reply ≡ None → Ties s self.old
             → Ties s self.new }
@@ -190,7 +189,7 @@ impl Machine {
         ensures steps { steps self.new.past ≡ steps self.old.past }
         ensures kept { line self.new ≡ line self.old }
         ensures away { IsTrue (is_away (way self.new.stage)) }
-        ensures left { turns_left self.new < 3 }
+        ensures nearer { turns_left self.new < turns_left self.old }
     {
         match challenged_told(self.is_proxied, reply.code) {
             None => self.answered(link, reply),

@@ -79,8 +79,6 @@ impl Machine {
         requires unbegun { stepped ≡ Stepped.NoMechanism
             → IfSome (holding self.old target) (λ held. held.context ≡ None) }
         ensures seen { IsSeenBy stepped target self.old self.new }
-        ensures nearer { IfSome (holding self.old target) (λ held. held.context ≡ None)
-            → turns_left self.new < turns_left self.old }
         ensures kept { line self.new ≡ line self.old }
         ensures away { IsTrue (is_away (way self.new.stage)) }
         ensures free { is_waiting self.new.stage ≡ false }

@@ -11,8 +11,7 @@ use Rattle.request_machine.proofs.Carrying.{tells_dialed, tells_dial_failed, tel
 use Rattle.request_machine.proofs.Failing.{tells_link_same}
 use Rattle.request_machine.proofs.Dialing.{one_dial}
 use Rattle.request_machine.specs.Linked.{Line}
-use Rattle.request_machine.specs.Turns.{starts_left}
-use Rattle.request_machine.proofs.Nearing.{dialed_nearer}
+use Rattle.request_machine.proofs.Nearing.{go_nearer, gone_nearer}
 use Rattle.request_machine.proofs.Driving.{driven_given, driven_undialed}
 use Rattle.request_machine.proofs.machine.Machine.dial.Goals as goal
 
@@ -85,5 +84,12 @@ returns-in-NoMemory-clause-faults g c =
 
 pub returns-in-Link-clause-nearer : goal.returns-in-Link-clause-nearer
 returns-in-Link-clause-nearer g c =
-    dialed_nearer c.args.self.now c.dialed.new.self c.requires.stage c.requires.undialed c.dialed.ensures.stage (ap (λ (l : Line). l.is_dialed) c.dialed.ensures.line)
-    (c.dialed.ensures.starts ∙ ap starts_left c.put_link.ensures)
+    gone_nearer c.args.self.now c.dialed.new.self (Dialed (c.args.self.now.links + 1))
+    (c.dialed.ensures.past ∙ ap (λ (v : Kept). Dialed (v.links + 1) ∷ v.past) c.put_link.ensures) c.requires.room c.requires.stage
+
+pub returns-in-Failed-clause-nearer : goal.returns-in-Failed-clause-nearer
+returns-in-Failed-clause-nearer g c =
+    gone_nearer c.args.self.now c.dial_failed.new.self (DialFailed (c.args.self.now.links + 1) c.in-Failed.count) c.dial_failed.ensures.past c.requires.room c.requires.stage
+
+pub returns-in-NoMemory-clause-nearer : goal.returns-in-NoMemory-clause-nearer
+returns-in-NoMemory-clause-nearer g c = go_nearer c.args.self.now c.spend.new.self c.requires.stage c.spend.ensures.asks

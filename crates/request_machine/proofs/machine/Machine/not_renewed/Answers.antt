@@ -1,6 +1,6 @@
 use Rattle.request_machine.proofs.Working.{behind_left, behind_free}
 use Rattle.request_machine.specs.Work.{work_left, is_waiting}
-use Rattle.std.proofs.Common.{IsTrue, subst, sym, ◌<◌, ◌≡◌, ◌≤◌, false}
+use Rattle.std.proofs.Common.{IsTrue, refl, subst, sym, ◌<◌, ◌≡◌, ◌≤◌, false}
 use Rattle.request_machine.specs.Kept.{Kept, Ties}
 use Rattle.request_machine.proofs.NextNonces.{not_renewed_ties}
 use Rattle.request_machine.specs.Turns.{turns_left}
@@ -21,7 +21,7 @@ returns-clause-goes c =
 pub returns-clause-nearer : goal.returns-clause-nearer
 returns-clause-nearer c =
     subst (λ (v : Kept). turns_left (record v { stage = c.stage_behind-self-inside.result }) < turns_left c.args.self.now) (sym c.self.view_is)
-    (behind_nearer c.args.self.now (record c.args.self.now { stage = c.stage_behind-self-inside.result }) c.args.target c.args.closing c.stage_behind-self-inside.ensures c.requires.stage)
+    (behind_nearer c.args.self.now (record c.args.self.now { stage = c.stage_behind-self-inside.result }) c.args.target c.args.closing refl c.stage_behind-self-inside.ensures c.requires.stage)
 
 pub returns-clause-less : goal.returns-clause-less
 returns-clause-less c =

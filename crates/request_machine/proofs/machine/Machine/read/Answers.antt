@@ -4,6 +4,7 @@ use Rattle.request_machine.specs.Carried.{ReadsInto}
 use Rattle.request_machine.proofs.Answering.{unprompted_reading}
 use Rattle.request_machine.proofs.Carrying.{tells_reading}
 use Rattle.request_machine.proofs.Failing.{tells_link_read, read_no_fault}
+use Rattle.request_machine.proofs.Nearing.{closed_nearer, read_nearer}
 use Rattle.request_machine.proofs.Driving.{driven_reading}
 use Rattle.request_machine.proofs.machine.Machine.read.Goals as goal
 
@@ -150,3 +151,15 @@ returns-in-NoMemory-clause-quiet g c = λ quiet.
           refl c.read_link.ensures.same
           (subst (λ e. ReadsInto c.args.link e c.read_link.new.self.past c.spend.new.self.past) (sym c.in-NoMemory.is) c.spend.ensures.past) still.1,
     )
+
+pub returns-in-Whole-clause-nearer : goal.returns-in-Whole-clause-nearer
+returns-in-Whole-clause-nearer g c = closed_nearer c.args.self.now c.read_link.new.self c.replied.new.self c.args.link c.requires.stage c.read_link.ensures.same c.replied.ensures.nearer
+
+pub returns-in-Broken-clause-nearer : goal.returns-in-Broken-clause-nearer
+returns-in-Broken-clause-nearer g c = read_nearer c.args.self.now c.broken.new.self c.args.link c.requires.stage c.broken.ensures.asks
+
+pub returns-in-Failed-clause-nearer : goal.returns-in-Failed-clause-nearer
+returns-in-Failed-clause-nearer g c = read_nearer c.args.self.now c.read_failed.new.self c.args.link c.requires.stage c.read_failed.ensures.asks
+
+pub returns-in-NoMemory-clause-nearer : goal.returns-in-NoMemory-clause-nearer
+returns-in-NoMemory-clause-nearer g c = read_nearer c.args.self.now c.spend.new.self c.args.link c.requires.stage c.spend.ensures.asks

@@ -10,6 +10,7 @@ use Rattle.connection_binding.specs.declared.ends.SendEnd.TheVariants.{All, Fail
 use Rattle.request_machine.specs.Failed.{link_faults}
 use Rattle.request_machine.proofs.Answering.{unprompted_event, unprompted_headed, unprompted_line, unprompted_then}
 use Rattle.request_machine.proofs.Carrying.{tells_same}
+use Rattle.request_machine.proofs.Nearing.{go_nearer, gone_nearer}
 use Rattle.request_machine.proofs.Failing.{tells_link_fault, tells_link_same, tells_link_still}
 use Rattle.request_machine.proofs.Writing.{tells_all, tells_part, tells_spent}
 use Rattle.request_machine.proofs.Driving.{driven_same, driven_headed, driven_behind}
@@ -115,3 +116,17 @@ returns-in-NoMemory-clause-traffic g c =
 pub returns-in-NoMemory-clause-faults : goal.returns-in-NoMemory-clause-faults
 returns-in-NoMemory-clause-faults g c =
     tells_link_same g.D.Dialer.sticks c.args.self.now c.spend-in-NoMemory.new.self _ _ (ap link_faults c.spend-in-NoMemory.ensures.past ∙ (ap link_faults (c.headed.ensures.past ∙ ap (λ (v : Kept). Headed v.links c.in-Ok.bytes ∷ v.past) c.send_bytes-end.ensures.same))) c.send_bytes-end.ensures.later
+
+pub returns-in-All-clause-nearer : goal.returns-in-All-clause-nearer
+returns-in-All-clause-nearer g c =
+    gone_nearer c.args.self.now c.headed.new.self _ (c.headed.ensures.past ∙ ap (λ (v : Kept). Headed v.links c.in-Ok.bytes ∷ v.past) c.send_bytes-end.ensures.same)
+    (let room = c.requires.room in omega (arith, room)) c.requires.stage
+
+pub returns-in-Failed-clause-nearer : goal.returns-in-Failed-clause-nearer
+returns-in-Failed-clause-nearer g c = go_nearer c.args.self.now c.write_failed.new.self c.requires.stage c.write_failed.ensures.asks
+
+pub returns-in-NoMemory-clause-nearer : goal.returns-in-NoMemory-clause-nearer
+returns-in-NoMemory-clause-nearer g c = go_nearer c.args.self.now c.spend-in-NoMemory.new.self c.requires.stage c.spend-in-NoMemory.ensures.asks
+
+pub returns-in-Err-clause-nearer : goal.returns-in-Err-clause-nearer
+returns-in-Err-clause-nearer g c = go_nearer c.args.self.now c.spend.new.self c.requires.stage c.spend.ensures.asks

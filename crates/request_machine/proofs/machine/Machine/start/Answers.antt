@@ -2,6 +2,7 @@ use Rattle.request_machine.proofs.Beginning.{start_before}
 use Rattle.std.proofs.Common.{◌≡◌}
 use Rattle.request_machine.specs.Contexts.{spn_told}
 use Rattle.request_machine.proofs.Working.{pushed_less, less_left}
+use Rattle.request_machine.proofs.Nearing.{go_nearer, gone_nearer}
 use Rattle.request_machine.proofs.Providing.{one_step, seen_more, tells_started}
 use Rattle.request_machine.proofs.machine.Machine.start.Goals as goal
 
@@ -24,3 +25,10 @@ pub returns-in-Ok-clause-less : goal.returns-in-Ok-clause-less
 returns-in-Ok-clause-less g c =
     less_left c.args.self.now c.stepped.new.self
     (pushed_less c.args.self.now c.stepped.new.self _ (one_step c.begin-stepped.result.1 c.args.target c.args.self.now c.stepped.new.self c.stepped.ensures.seen).1 c.requires.room)
+
+pub returns-in-Ok-clause-nearer : goal.returns-in-Ok-clause-nearer
+returns-in-Ok-clause-nearer g c =
+    gone_nearer c.args.self.now c.stepped.new.self _ (one_step c.begin-stepped.result.1 c.args.target c.args.self.now c.stepped.new.self c.stepped.ensures.seen).1 c.requires.room c.requires.stage
+
+pub returns-in-Err-clause-nearer : goal.returns-in-Err-clause-nearer
+returns-in-Err-clause-nearer g c = go_nearer c.args.self.now c.spend.new.self c.requires.stage c.spend.ensures.asks
