@@ -230,12 +230,12 @@ tells_dial_failed request m n count streams old new was same kept untold = λ s 
 )
 
 -- a step of the provider, or nothing
-pub tells_stepped : (request : Request) (m n : Kept) (streams : Option (LinkName → List ℕ)) (told : Option (List Traffic)) → m.stage ≡ Go → IsStepMore m.past n.past → line n ≡ line m → TellsTraffic request m n streams told told
+pub tells_stepped : (request : Request) (m n : Kept) (streams : Option (LinkName → List ℕ)) (told : Option (List Traffic)) → is_ending (way m.stage) ≡ false → IsStepMore m.past n.past → line n ≡ line m → TellsTraffic request m n streams told told
 tells_stepped request m n streams told was same kept = λ s before more by t grew c. (
   more,
   grew,
   carried_line s streams before m n more (stepped_past s m.past n.past same) kept
-      (never_short (is_ending (way m.stage)) (is_ending (way n.stage)) m.past n.past (ap (λ st. is_ending (way st)) was)) c,
+      (never_short (is_ending (way m.stage)) (is_ending (way n.stage)) m.past n.past was) c,
 )
 
 -- the user was asked

@@ -20,7 +20,7 @@ use Rattle.trace_rule.specs.Moves.Move.{Closes}
 use Rattle.trace_rule.specs.Traces.{is_end, can_be, may_cut}
 use Rattle.request_machine.specs.declared.holding.Holding.{Holding}
 use Rattle.request_machine.specs.declared.stage.Stage.{Stage}
-use Rattle.request_machine.specs.declared.stage.Stage.TheVariants.{Reject as Rejecting, NameRenewal, Read, Choose, Close, Spent}
+use Rattle.request_machine.specs.declared.stage.Stage.TheVariants.{Reject as Rejecting, NameRenewal, Continue, Read, Choose, Close, Spent}
 use Rattle.request_machine.specs.Kept.{IsKept, Kept, Ties, IsHeld, held_kept, is_after_end, gift_by_path, note_call}
 use Rattle.request_machine.specs.Told.{unless_it}
 use Rattle.request_machine.proofs.Quiet.{IsNext, same_held}
@@ -152,6 +152,17 @@ to_reject s m link reply x h decision same is may held_x decides fresh few t =
         ap (carried_out s (Replied link reply ∷ m.past)) (moves_decided s m link reply x h decision is held_x decides few t ∙ fresh),
         held_x.of_target,
       );
+      ended = no_end;
+      may_stop = rw no_end refl;
+      open_still = only_end s m (Read link) same t (λ n e. e);
+    }
+
+-- a challenge that brings the token that the context waits for, over a link that stays
+pub to_continue : (s : Setting) (m : Kept) (link : ℕ) (reply : Reply) (t : Target) → m.stage ≡ Read link → IsTrue (can_be reply) → Ties s m → IsNext s (Replied link reply ∷ m.past) (Continue t)
+to_continue s m link reply x same may t =
+    let no_end : list_any is_end m.past ≡ false = t.ended ∙ ap is_after_end same in
+    record {
+      stands = reads_past s m link (Replied link reply) same t (refl, may);
       ended = no_end;
       may_stop = rw no_end refl;
       open_still = only_end s m (Read link) same t (λ n e. e);

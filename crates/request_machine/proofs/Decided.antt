@@ -12,22 +12,25 @@ use Rattle.auth_runs.specs.declared.event.Why.TheVariants.{Rounds}
 use Rattle.trace_rule.specs.Settings.{Setting, is_proxied}
 use Rattle.trace_rule.specs.Challenges.{Offer, challenged, challenges_target}
 use Rattle.trace_rule.specs.Holding.{Held, Decision, deciding}
-use Rattle.trace_rule.specs.Holding.Decision.{Offering}
+use Rattle.trace_rule.specs.Holding.Decision.{Negotiating, Offering}
 use Rattle.auth_events.specs.declared.journal.Call.TheVariants.{Renew}
-use Rattle.trace_rule.specs.Moves.{decided, renewed, rejects, known}
-use Rattle.trace_rule.specs.Moves.Want.{Calls}
+use Rattle.trace_rule.specs.Moves.{move, decided, renewed, rejects, known}
+use Rattle.trace_rule.specs.Moves.Want.{Calls, Steps, Loses}
+use Rattle.trace_rule.specs.Moves.Asking.{GoOn}
+use Rattle.trace_rule.specs.Closings.{carried_out}
 use Rattle.trace_rule.specs.Moves.Move.{Goes}
 use Rattle.trace_rule.specs.Traces.{can_be}
 use Rattle.request_machine.specs.declared.holding.Holding.{Holding}
 use Rattle.request_machine.specs.declared.stage.Stage.{Stage}
-use Rattle.request_machine.specs.declared.stage.Stage.TheVariants.{Reject as Rejecting, NameRenewal, Read, Choose, Close, Spent}
+use Rattle.request_machine.specs.declared.stage.Stage.TheVariants.{Reject as Rejecting, NameRenewal, Continue, Read, Choose, Close, Spent}
 use Rattle.request_machine.specs.Kept.{Kept, Ties, IsKept, IsHeld, held_kept}
 use Rattle.request_machine.specs.Chosen.{stale_terms}
 use Rattle.request_machine.specs.Changed.{holding}
-use Rattle.request_machine.specs.Told.{held_rejected, held_last, unless_it}
-use Rattle.request_machine.proofs.Challenged.{challenge_ties, challenges_it, held_elsewhere, held_challenged, kept_decided, nothing_held, to_choose, to_reject, to_renew, to_rounds, to_spend, moves_decided}
+use Rattle.request_machine.specs.Contexts.{stage_continued}
+use Rattle.request_machine.specs.Told.{IsLive, held_rejected, held_last, is_live, unless_it}
+use Rattle.request_machine.proofs.Challenged.{challenge_ties, challenges_it, held_elsewhere, held_challenged, kept_decided, nothing_held, to_choose, to_continue, to_reject, to_renew, to_rounds, to_spend, moves_decided}
 use Rattle.request_machine.proofs.Quiet.{IsNext}
-use Rattle.request_machine.proofs.Reading.{read_unnamed}
+use Rattle.request_machine.proofs.Reading.{read_peer, read_unnamed}
 
 -- the reply challenges the target, and decides nothing on what is held for it
 pub record IsUndecided (s : Setting) (m : Kept) (reply : Reply) (t : Target) : Type 0 where
@@ -106,10 +109,37 @@ rejects_ties s m link reply x h decision same may few is fresh t =
     decided_ties s m link reply x h decision (Rejecting x h.gift) same is tt
     (to_reject s m link reply x h decision same is.target may (held_at s m reply x h decision is t) is.decides (fresh.rejects (Replied link reply ∷ m.past) link reply.stays) few t) t
 
--- memory runs out
-pub spent_behind : (s : Setting) (m : Kept) (link : ℕ) (reply : Reply) (t : Target) (h : Holding) (decision : Decision) → m.stage ≡ Read link → IsTrue (can_be reply) → IsDecided s m reply t h decision → Ties s m
-    → Ties s (record m { past = Replied link reply ∷ m.past; stage = Spent; rounds = m.rounds + 1; code = reply.code })
-spent_behind s m link reply x h decision same may is t = decided_ties s m link reply x h decision Spent same is tt (to_spend s m link reply same may t) t
+-- the context goes on, where the link stays
+pub continues_ties : (s : Setting) (m : Kept) (link : ℕ) (reply : Reply) (t : Target) (h : Holding) (peer : List ℕ) → m.stage ≡ Read link → IsTrue (can_be reply) → nat_le 17 (m.rounds + 1) ≡ false
+    → IsDecided s m reply t h (Negotiating (Some peer)) → is_live h.context ≡ true → Ties s m
+    → Ties s (record m { past = Replied link reply ∷ m.past; stage = stage_continued reply.stays t; rounds = m.rounds + 1; code = reply.code; peer = Some peer })
+continues_ties s m link reply x h peer same may few is live t = at reply.stays refl
+  where
+    before : Kept
+    before = record m { peer = Some peer }
+
+    same_holding : (y : Target) → holding before y ≡ holding m y
+    same_holding Proxy = refl
+    same_holding Server = refl
+    same_holding Socks = refl
+
+    live_behind : (y : Target) (stage : Stage) → holding m y ≡ Some h → IsLive (holding (record before { past = Replied link reply ∷ m.past; stage = stage; rounds = m.rounds + 1; code = reply.code }) y)
+    live_behind Proxy stage held = subst (λ o. IsLive o) (sym held) live
+    live_behind Server stage held = subst (λ o. IsLive o) (sym held) live
+    live_behind Socks stage held = absurd (cc)
+
+    decided_so : IsDecided s before reply x h (Negotiating (Some peer))
+    decided_so = record { target = is.target; held = same_holding x ∙ is.held; decides = is.decides }
+
+    at : (b : Bool) → reply.stays ≡ b → Ties s (record before { past = Replied link reply ∷ m.past; stage = stage_continued b x; rounds = m.rounds + 1; code = reply.code })
+    at true stays =
+        let moves : move s (Replied link reply ∷ m.past) ≡ Goes (Steps x (GoOn peer)) =
+        moves_decided s m link reply x h (Negotiating (Some peer)) is.target (held_at s m reply x h (Negotiating (Some peer)) is t) is.decides few t
+        ∙ ap (λ b. if b then Goes (Steps x (GoOn peer)) else Goes (Loses link)) stays in
+        decided_ties s before link reply x h (Negotiating (Some peer)) (Continue x) same decided_so
+        (record { token = peer; is_kept = refl; wanted = ap (carried_out s (Replied link reply ∷ m.past)) moves }, live_behind x (Continue x) is.held)
+        (to_continue s m link reply x same may t) (read_peer s m link (Some peer) same t)
+    at false stays = decided_ties s before link reply x h (Negotiating (Some peer)) Spent same decided_so tt (to_spend s m link reply same may t) (read_peer s m link (Some peer) same t)
 
 -- the seventeenth round
 last_held : (s : Setting) (past : List Event) (link : ℕ) (reply : Reply) (t : Target) (h : Option Holding) (kept : Bool) → challenges_target s reply t ≡ true

@@ -1,5 +1,5 @@
 -- What a challenge decides, by what was told of what is held.
-use Rattle.std.proofs.Common.{◌≡◌, ℕ, Bool, true, false, List, Option, Some, None, refl, sym, ap, ◌∙◌, IfSome, IsSome, unwrap_or, option_map, option_and_then, is_some, find, if◌then◌else◌}
+use Rattle.std.proofs.Common.{◌≡◌, ℕ, Bool, true, false, List, Option, Some, None, refl, sym, ap, ◌∙◌, IfSome, IsSome, unwrap_or, option_map, option_and_then, is_some, find, subst, if◌then◌else◌}
 use Rattle.spaces.specs.declared.roster.Request.{Request}
 use Rattle.challenge_tokens.specs.declared.challenge.Challenge.{Challenge}
 use Rattle.challenge_offers.specs.Tokens.{token_offered}
@@ -25,7 +25,7 @@ use Rattle.request_machine.specs.Kept.{Kept, Ties, IsKnown, held_kept}
 use Rattle.request_machine.specs.Changed.{holding}
 use Rattle.request_machine.specs.declared.decide.Decision.TheVariants.{Renews, Rejects, Continues}
 use Rattle.request_machine.specs.Chosen.{offer_told, stale_terms, renewed_by, decision_by, decision_on, decision_told, decision_at}
-use Rattle.request_machine.specs.Told.{IsReady, scheme_told}
+use Rattle.request_machine.specs.Told.{IsReady, is_live, scheme_told}
 use Rattle.request_machine.proofs.Going.{told_scheme}
 use Rattle.request_machine.proofs.Decided.{IsUndecided, IsDecided, IsLast, IsRejection}
 
@@ -131,7 +131,34 @@ last_of s m reply t decides ready some is ties = record { target = is; decides =
     at None known ready e = tt
     at (Some h) known ready e = both h.gift (deciding s reply t (held_kept h)) ∙ ap is_some (sym (told_deciding s reply t h known ready)) ∙ e
 
+-- where the peer's token decides, the context that is held goes on
+pub continuing_live : (s : Setting) (m : Kept) (reply : Reply) (t : Target) (h : Holding) (peer : Option (List ℕ)) → IfSome (holding m t) IsReady → IsDecided s m reply t h (Negotiating peer) → Ties s m → is_live h.context ≡ true
+continuing_live s m reply t h peer ready is ties =
+    let known : IsKnown s h = subst (λ (o : Option Holding). IfSome o (IsKnown s)) is.held (known_at s m t ties) in
+    let all : IsReady h = subst (λ (o : Option Holding). IfSome o IsReady) is.held ready in
+    all.context (at (scheme_told h.space Negotiate) (token_offered reply) (offer_told s.request reply t h) (sym (deciding_told s reply t h known all) ∙ is.decides))
+  where
+    at : (b : Bool) (p : Option (Option (List ℕ))) (o : Option Offer) → (if b then option_map Negotiating p else option_map Offering o) ≡ Some (Negotiating peer) → b ≡ true
+    at true p o e = refl
+    at false p None e = absurd (cc)
+    at false p (Some offered) e = absurd (cc)
+
 -- BY WHAT IT COMES TO
+
+-- the context goes on
+pub continuing_of : (h : Holding) (peer : List ℕ) (decision : Decision) → told_by h.gift decision ≡ Continues peer → decision ≡ Negotiating (Some peer)
+continuing_of h peer (Negotiating None) e = absurd (cc)
+continuing_of h peer (Negotiating (Some token)) e = ap (λ (d : Decided). Negotiating (Some (peer_of d))) e
+  where
+    peer_of : Decided → List ℕ
+    peer_of (Continues token) = token
+    peer_of (Rejects gift) = peer
+    peer_of (Renews gift terms) = peer
+continuing_of h peer (Offering offered) e = at (stale_terms offered) e
+  where
+    at : (o : Option Terms) → renewed_by h.gift o ≡ Continues peer → Offering offered ≡ Negotiating (Some peer)
+    at None e = absurd (cc)
+    at (Some told) e = absurd (cc)
 
 -- the gift is rejected
 pub record IsRejectionOf (s : Setting) (t : Target) (h : Holding) (gift : Gift) (decision : Decision) : Type 0 where

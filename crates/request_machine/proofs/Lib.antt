@@ -47,4 +47,5 @@ pub mod Answering
 pub mod Turning
 pub mod Giving
 pub mod Providing
+pub mod Continuing
 pub mod Unasked

@@ -204,7 +204,7 @@ module _ (s : Setting) (m n : Kept) (t : Target) (spn : List ℕ) (login : Optio
   asked_at HasFailed faults one = inl (no_answer (Failed faults) refl one)
   asked_at LacksMemory faults one = inl (no_answer NoMemory refl one)
 
-exact_asks : (s : Setting) (ending : Bool) (past : List Event) (calls : List TokenCall) → ending ≡ false → IsAskedSoFar s ending past calls → calls ≡ asks s past
+pub exact_asks : (s : Setting) (ending : Bool) (past : List Event) (calls : List TokenCall) → ending ≡ false → IsAskedSoFar s ending past calls → calls ≡ asks s past
 exact_asks s ending past calls onward (inl all) = all
 exact_asks s ending past calls onward (inr (is, more)) = absurd (false≢true (sym onward ∙ is))
 

@@ -1,5 +1,5 @@
 -- Replies over a free link.
-use Rattle.std.proofs.Common.{◌≤◌, ◌≡◌, ℕ, ◌+◌, true, false, nat_le, Option, ap, sym, subst, IfSome, ◌∙◌, arith, ◌<◌}
+use Rattle.std.proofs.Common.{◌≤◌, ◌≡◌, ℕ, ◌+◌, true, false, nat_le, List, Option, ap, sym, subst, IfSome, ◌∙◌, arith, ◌<◌}
 use Rattle.spaces.specs.declared.roster.Request.{Request}
 use Rattle.spaces.specs.declared.site.Target.{Target}
 use Rattle.spaces.specs.declared.site.Target.TheVariants.{Server, Proxy, Socks}
@@ -20,10 +20,10 @@ use Rattle.request_machine.proofs.Beside.{linked_ties}
 pub challenged_is_told : (s : Setting) (m : Kept) (reply : Reply) (o : Option Target) → challenged_told m.is_proxied reply.code ≡ o → Ties s m → challenged s reply ≡ o
 challenged_is_told s m reply o told t = ap (λ b. challenged_told b reply.code) t.route ∙ told
 
--- what is to be named plays no part before it is asked for
-pub unnamed_ties : (s : Setting) (m : Kept) (space : Option ProtectionSpace) (terms : Option Terms) → IsKept s (record m { unnamed_space = space; unnamed_terms = terms }) m.stage → Ties s m
-    → Ties s (record m { unnamed_space = space; unnamed_terms = terms })
-unnamed_ties s m space terms kept t = record {
+-- what is to be named, and the peer's token, play no part before they are asked for
+peered_ties : (s : Setting) (m : Kept) (space : Option ProtectionSpace) (terms : Option Terms) (peer : Option (List ℕ)) → IsKept s (record m { unnamed_space = space; unnamed_terms = terms; peer = peer }) m.stage → Ties s m
+    → Ties s (record m { unnamed_space = space; unnamed_terms = terms; peer = peer })
+peered_ties s m space terms peer kept t = record {
   same_number = t.same_number;
   same_seed = t.same_seed;
   passes_over = t.passes_over;
@@ -49,8 +49,15 @@ unnamed_ties s m space terms kept t = record {
   kept = kept;
 }
 
+pub unnamed_ties : (s : Setting) (m : Kept) (space : Option ProtectionSpace) (terms : Option Terms) → IsKept s (record m { unnamed_space = space; unnamed_terms = terms }) m.stage → Ties s m
+    → Ties s (record m { unnamed_space = space; unnamed_terms = terms })
+unnamed_ties s m space terms kept t = peered_ties s m space terms m.peer kept t
+
 pub read_unnamed : (s : Setting) (m : Kept) (link : ℕ) (terms : Option Terms) → m.stage ≡ Read link → Ties s m → Ties s (record m { unnamed_terms = terms })
 read_unnamed s m link terms same t = unnamed_ties s m m.unnamed_space terms (subst (IsKept s (record m { unnamed_terms = terms })) (sym same) (subst (IsKept s m) same t.kept)) t
+
+pub read_peer : (s : Setting) (m : Kept) (link : ℕ) (peer : Option (List ℕ)) → m.stage ≡ Read link → Ties s m → Ties s (record m { peer = peer })
+read_peer s m link peer same t = peered_ties s m m.unnamed_space m.unnamed_terms peer (subst (IsKept s (record m { peer = peer })) (sym same) (subst (IsKept s m) same t.kept)) t
 
 -- before a reply all is told of what is held
 pub ready_at : (m : Kept) (request : Request) (link : ℕ) (t : Target) → m.stage ≡ Read link → IsTied m request → IfSome (holding m t) IsReady

@@ -15,9 +15,11 @@ use Rattle.trace_rule.proofs.HeadCount.{heads_bound}
 use Rattle.trace_laws.proofs.Counted.{few_links, few_if}
 use Rattle.trace_laws.proofs.Sums.{short_pasts}
 use Rattle.request_machine.specs.declared.stage.Stage.{Stage}
-use Rattle.request_machine.specs.declared.stage.Stage.TheVariants.{Call as Calling, Go, Learn, Draw, Choose, NameSpace, NameTerms, NameRenewal, Renew as Renewing, NextNonce, NameLast, RenewLast, Select as Selecting, Ask, NameText, Answer as Answering, Cancel as Cancelling, Lose as Losing, Take as Taking, Reject as Rejecting, Read, Close, End, Spent, SpentEnd, SpentOver, Over}
+use Rattle.request_machine.specs.declared.stage.Stage.TheVariants.{Call as Calling, Go, Learn, Draw, Choose, NameSpace, NameTerms, NameRenewal, Renew as Renewing, NextNonce, NameLast, RenewLast, Select as Selecting, Ask, NameText, Answer as Answering, Cancel as Cancelling, Lose as Losing, Take as Taking, Reject as Rejecting, Continue, Read, Close, End, Spent, SpentEnd, SpentOver, Over}
 use Rattle.request_machine.specs.declared.need.Need.TheVariants.{SpaceNo, TermsNo, TextNo}
-use Rattle.request_machine.specs.Kept.{Kept, Ties, IsStage, IsKept, IsTied, lost_at}
+use Rattle.request_machine.specs.Kept.{Kept, Ties, IsStage, IsKept, IsTied, holding, lost_at}
+use Rattle.request_machine.specs.Told.{IsLive}
+use Rattle.spaces.specs.declared.site.Target.{Target}
 use Rattle.request_machine.specs.Needs.{need_at, is_naming}
 use Rattle.request_machine.specs.Turns.{is_asking, is_going}
 use Rattle.request_machine.specs.Rooms.{HasSetting, HasSettingOf, HasRoomToGo, HasRoomToRead, HasRoomAt}
@@ -63,6 +65,7 @@ module _ (s : Setting) (numbers : IsNumbered s) where
   short_at past (Losing p loss) at = short past at.0
   short_at past (Taking p) at = short past at.0
   short_at past (Rejecting t gift) at = short past at.0
+  short_at past (Continue t) at = short past at
   short_at past (Read link) at = short past at.0
   short_at past (Close c) at = short past at.0
   short_at past (End outcome) at = short past at.0
@@ -90,6 +93,7 @@ module _ (s : Setting) (numbers : IsNumbered s) where
 
   room_at : (m : Kept) (stage : Stage) → Ties s m → IsStage s m.past stage → HasRoomAt stage m
   room_at m Go t at = go_room m t at.0
+  room_at m (Continue x) t at = read_room m t at
   room_at m (Read link) t at = read_room m t at.0
   room_at m (Calling call) t at = past_room m t
   room_at m (Learn x piece) t at = past_room m t
@@ -158,6 +162,15 @@ tied_go request m tied same = subst (λ st. HasRoomAt st m) same (tied_room_at r
 pub tied_read : (request : Request) (m : Kept) (link : ℕ) → HasSettingOf request m → m.stage ≡ Read link → HasRoomToRead m
 tied_read request m link tied same = subst (λ st. HasRoomAt st m) same (tied_room_at request m tied)
 
+pub tied_continue : (request : Request) (m : Kept) (t : Target) → HasSettingOf request m → m.stage ≡ Continue t → HasRoomToRead m
+tied_continue request m t tied same = subst (λ st. HasRoomAt st m) same (tied_room_at request m tied)
+
+-- there is a token to be answered, and a context that goes on
+pub tied_answer : (request : Request) (m : Kept) (t : Target) → HasSettingOf request m → m.stage ≡ Continue t → IsSome m.peer × IsLive (holding m t)
+tied_answer request m t tied same =
+    let kept : IsKept tied.setting m (Continue t) = subst (IsKept tied.setting m) same tied.ties.kept in
+    (ap is_some kept.0.is_kept, kept.1)
+
 pub tied_past : (request : Request) (m : Kept) → HasSettingOf request m → length m.past < 256
 tied_past request m tied = past_room tied.setting tied.numbers m tied.ties
 
@@ -178,6 +191,7 @@ idle_goes request m tied idle = at m.stage refl
     at Go same = refl
     at (Learn t piece) same = refl
     at (Choose t) same = refl
+    at (Continue t) same = refl
     at (Read link) same = refl
     at (Ask p ordinal) same = refl
     at (NextNonce t c) same = refl

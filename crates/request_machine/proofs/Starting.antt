@@ -57,6 +57,7 @@ pub new_ties : (s : Setting) (request : Request) (number : ℕ) (seed : List ℕ
       has_none = false;
       prompt = 0;
       given = None;
+      peer = None;
       unnamed_space = None;
       unnamed_terms = None;
       space = None;

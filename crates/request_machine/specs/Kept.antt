@@ -22,7 +22,8 @@ use Rattle.trace_rule.specs.Holding.{Context as HeldContext}
 use Rattle.trace_rule.specs.Heads.{drawn}
 use Rattle.trace_rule.specs.Moves.{move, go, select, known, rounds, terms_led, is_answered, space_offered}
 use Rattle.trace_rule.specs.Closings.{want, closings, closings_made, renewal_for}
-use Rattle.trace_rule.specs.Moves.Want.{Calls, Answers, Asks, Draws, Reads, Ends}
+use Rattle.trace_rule.specs.Moves.Want.{Calls, Answers, Asks, Steps, Draws, Reads, Ends}
+use Rattle.trace_rule.specs.Moves.Asking.{GoOn}
 use Rattle.trace_rule.specs.Moves.Move.{Goes, Closes}
 use Rattle.trace_rule.specs.Traces.{IsPast, IsRun, IsCut, may_cut, is_end, prompt_open, space_prompted, with_loss}
 use Rattle.trace_rule.specs.Telling.{ask_of}
@@ -35,11 +36,11 @@ use Rattle.request_machine.specs.declared.holding.Context.{Context}
 use Rattle.request_machine.specs.declared.holding.NamedTerms.{NamedTerms}
 use Rattle.request_machine.specs.declared.holding.Holding.{Holding}
 use Rattle.auth_runs.specs.declared.event.Outcome.{Outcome}
-use Rattle.request_machine.specs.Told.{IsReady, IsLack, token_kept, is_first}
+use Rattle.request_machine.specs.Told.{IsReady, IsLack, IsLive, token_kept, is_first}
 use Rattle.request_machine.specs.declared.stage.Closing.{Closing}
 use Rattle.request_machine.specs.declared.stage.Prompt.{Prompt}
 use Rattle.request_machine.specs.declared.stage.Stage.{Stage}
-use Rattle.request_machine.specs.declared.stage.Stage.TheVariants.{Call as Calling, Go, Learn, Draw, Choose, NameSpace, NameTerms, Select as Selecting, Ask, NameText, Answer as Answering, Cancel as Cancelling, Lose as Losing, Take as Taking, Reject as Rejecting, NameRenewal, Renew as Renewing, Read, NextNonce, NameLast, RenewLast, Close, End, Spent, SpentEnd, SpentOver, Over}
+use Rattle.request_machine.specs.declared.stage.Stage.TheVariants.{Call as Calling, Go, Learn, Draw, Choose, NameSpace, NameTerms, Select as Selecting, Ask, NameText, Answer as Answering, Cancel as Cancelling, Lose as Losing, Take as Taking, Reject as Rejecting, NameRenewal, Renew as Renewing, Continue, Read, NextNonce, NameLast, RenewLast, Close, End, Spent, SpentEnd, SpentOver, Over}
 
 pub record Kept : Type 0 where
   pub number : ℕ
@@ -74,6 +75,8 @@ pub record Kept : Type 0 where
   pub prompt : ℕ
   -- the identity that the prompter gave, until it is named
   pub given : Option Login
+  -- the peer's token, until the provider has answered it
+  pub peer : Option (List ℕ)
   -- the space and the terms that are to be named
   pub unnamed_space : Option ProtectionSpace
   pub unnamed_terms : Option Terms
@@ -252,6 +255,14 @@ pub record IsStale (s : Setting) (past : List Event) (unnamed : Option Terms) (g
   pub are_unnamed : unnamed ≡ Some terms
   pub moves : move s past ≡ known (s.terms_no gift.space terms) (λ n. Goes (Calls (Renew gift n)))
 
+-- A CONTEXT
+
+-- the provider is asked to go on with the peer's token
+pub record IsAnswerLeft (s : Setting) (past : List Event) (peer : Option (List ℕ)) (t : Target) : Type 0 where
+  pub token : List ℕ
+  pub is_kept : peer ≡ Some token
+  pub wanted : want s past ≡ Steps t (GoOn token)
+
 -- AN ANSWER
 
 -- the last reply answers the request, which closes
@@ -298,6 +309,7 @@ IsStage s past (Taking p) = IsPast s past × (want s past ≡ Calls (Take p.numb
 IsStage s past (Rejecting t gift) = IsPast s past × (want s past ≡ Calls (Reject gift.space gift.ordinal)) × IsOfTarget s gift.space t
 IsStage s past (NameRenewal t gift) = IsPast s past × IsOfTarget s gift.space t × IsChallenged s past t
 IsStage s past (Renewing t gift terms) = IsPast s past × (want s past ≡ Calls (Renew gift terms)) × IsOfTarget s gift.space t × IsChallenged s past t
+IsStage s past (Continue t) = IsPast s past
 IsStage s past (Read link) = IsPast s past × (want s past ≡ Reads link) × ((x : Target) → held s past x ≡ option_map (held_headed link) (carried s past x))
 IsStage s past (NextNonce t c) = IsAnswered s past c × (closings_left s past c.outcome ≡ renewals_from s past t ++ map Some (calls_left c)) × AreCarriedFrom s past t
 IsStage s past (NameLast t gift c) = IsAnswered s past c × IsOfTarget s gift.space t × AreCarriedBehind s past t
@@ -356,6 +368,7 @@ IsKept s m (NameSpace t) = IsSpacePicked s m.past m.unnamed_space m.unnamed_term
 IsKept s m (NameTerms t n) = AreTermsPicked s m.past m.unnamed_terms t n
 IsKept s m (NameText p) = IsSome m.given
 IsKept s m (NameRenewal t gift) = IsStale s m.past m.unnamed_terms gift
+IsKept s m (Continue t) = IsAnswerLeft s m.past m.peer t × IsLive (holding m t)
 IsKept s m (Read link) = IfSome m.proxy IsReady × IfSome m.server IsReady
 IsKept s m (NextNonce t c) = AreReadyFrom m.proxy m.server t
 IsKept s m (NameLast t gift c) = AreReadyBehind m.server t × IsRenewalLeft s m.past m.unnamed_terms t gift c

@@ -4,7 +4,7 @@ use Rattle.spaces.specs.declared.roster.Request.{Request}
 use Rattle.spaces.specs.declared.roster.Roster.{Roster}
 use Rattle.trace_rule.specs.Settings.{Setting, IsNumbered}
 use Rattle.request_machine.specs.declared.stage.Stage.{Stage}
-use Rattle.request_machine.specs.declared.stage.Stage.TheVariants.{Go, Read}
+use Rattle.request_machine.specs.declared.stage.Stage.TheVariants.{Go, Continue, Read}
 use Rattle.request_machine.specs.Kept.{Kept, Ties, IsSettingOf}
 
 -- there is a setting of which the fields tell
@@ -40,5 +40,6 @@ pub record HasRoomToRead (m : Kept) : Type 0 where
 
 abbrev pub HasRoomAt : Stage → Kept → Type 0
 HasRoomAt Go m = HasRoomToGo m
+HasRoomAt (Continue t) m = HasRoomToRead m
 HasRoomAt (Read link) m = HasRoomToRead m
 HasRoomAt stage m = length m.past < 256

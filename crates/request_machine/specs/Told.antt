@@ -1,5 +1,5 @@
 -- What a machine knows of what it holds, by what it was told.
-use Rattle.std.specs.Prelude.{ℕ, ◌≡◌, ◌==◌, ◌&&◌, ◌||◌, Bool, true, false, List, Option, Some, None, IsSome, is_some, unwrap_or, option_map, option_and_then, if◌then◌else◌}
+use Rattle.std.specs.Prelude.{ℕ, ◌≡◌, ◌==◌, ◌&&◌, ◌||◌, Bool, true, false, List, Option, Some, None, IfSome, IsSome, is_some, unwrap_or, option_map, option_and_then, if◌then◌else◌}
 use Rattle.spaces.specs.declared.site.Target.{Target}
 use Rattle.spaces.specs.declared.site.Target.TheVariants.{Server, Proxy}
 use Rattle.spaces.specs.declared.space.Scheme.{Scheme}
@@ -63,6 +63,22 @@ headed_told link h = record h { context = option_map (carried_on_told link) h.co
 
 abbrev pub context_held : Option Holding → Option Context
 context_held h = option_and_then (λ o. o.context) h
+
+-- its context goes on
+abbrev pub IsLive : Option Holding → Type 0
+IsLive None = ⊥
+IsLive (Some h) = is_live h.context ≡ true
+
+-- the last token of its context
+abbrev pub IsTokenOf : List ℕ → Option Holding → Type 0
+IsTokenOf token h = IfSome (context_held h) (λ c. token ≡ token_kept c.token)
+
+-- the provider is asked to go on, and what is held keeps the last token
+abbrev pub ended_on : Context → Context
+ended_on context = record context { token = Spent (token_kept context.token) }
+
+abbrev pub ended_told : Holding → Holding
+ended_told h = record h { context = option_map ended_on h.context }
 
 -- the link that its context has bound
 abbrev pub link_told : Option Holding → Option ℕ

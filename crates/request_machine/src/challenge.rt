@@ -1,6 +1,11 @@
 //! A challenge, by what it decides on what is held for its target: another challenge is chosen,
 //! what is held is renewed or rejected, or, in the seventeenth round, the request is refused.
 
+ghost use Rattle.std.specs.Prelude.{◌≡◌, IsTrue, false};
+ghost use Rattle.request_machine.specs.Contexts.{stage_continued};
+ghost use Rattle.request_machine.specs.Linked.{way, is_away};
+ghost use Rattle.request_machine.specs.Work.{is_waiting};
+
 use crate::choose::unless_it;
 use crate::decide::Decision;
 use crate::machine::Machine;
@@ -9,6 +14,19 @@ use auth_events::Gift;
 use auth_runs::{Event, Outcome, Reply, Why};
 use auth_text::Bytes;
 use spaces::{Target, Terms};
+
+/// Where the request stands behind a token of the peer.
+fn stage_continued(stays: bool, target: Target) -> Stage
+    ensures stage { result ≡ stage_continued stays target }
+    ensures away { IsTrue (is_away (way result)) }
+    ensures free { is_waiting result ≡ false }
+{
+    if stays {
+        Stage::Continue(target)
+    } else {
+        Stage::Spent
+    }
+}
 
 impl Machine {
     ghost use Rattle.request_machine.specs.Work.{is_waiting};
@@ -92,7 +110,7 @@ impl Machine {
     }
 
     /// The reply challenges the target, and brings the token that the context waits for. So far no
-    /// context goes on.
+    /// new link makes up for one that did not stay.
     fn continues(&mut self, link: u32, reply: Reply, target: Target, peer: Bytes)
         requires room { length self.old.past < 256 }
         requires stage { self.old.stage ≡ Stage.Read link }
@@ -108,10 +126,12 @@ impl Machine {
             → challenged s reply ≡ Some target → Ties s self.old → Ties s self.new }
     {
         let code = reply.code;
+        let stays = reply.stays;
+        self.put_peer(peer);
         self.push(Event::Replied { link, reply });
         self.code = code;
         self.rounds += 1;
-        self.stage = Stage::Spent;
+        self.stage = stage_continued(stays, target);
     }
 
     fn hold_last(&mut self, target: Target, decides: bool)

@@ -44,6 +44,7 @@ impl Machine {
             proxy: _proxy,
             server: _server,
             given: _given,
+            peer: _peer,
             unnamed_space: _unnamed_space,
             unnamed_terms: _unnamed_terms,
             space: _space,

@@ -1,20 +1,21 @@
 //! What a machine knows of what it holds, by what the book has told.
 
 ghost use Rattle.std.specs.Prelude.{◌≡◌, option_and_then, None, Some, true, IfSome, OnOk, IfErr};
-ghost use Rattle.std.specs.Prelude.{option_map};
+ghost use Rattle.std.specs.Prelude.{option_map, IfOk};
 ghost use Rattle.spaces.specs.declared.space.Scheme.TheVariants.{Negotiate};
 ghost use Rattle.request_machine.specs.Heads.{kept_drew, nonce_next};
 ghost use Rattle.request_machine.specs.Told.{scheme_told, gift_told, bare, IsReady, LacksOne};
 ghost use Rattle.request_machine.specs.Told.{Lacks, nonce_told, with_space, with_identity};
-ghost use Rattle.request_machine.specs.Told.{with_named};
+ghost use Rattle.request_machine.specs.Told.{with_named, is_live, ended_told, IsLive, IsTokenOf};
 ghost use Rattle.request_machine.specs.Told.{link_told, headed_told, carried_on_told};
 ghost use Rattle.request_machine.specs.Contexts.{with_context};
 
 use crate::holding::{Context, Holding, NamedTerms, Token};
 use crate::stage::Piece;
 use auth_events::Gift;
-use auth_text::Identity;
+use auth_text::{Bytes, Identity, NoMemory};
 use spaces::{Qop, Scheme, Space, same_scheme};
+use std::alloc::Global;
 
 /// The gift that is noted, where the identity is a Basic or Digest one.
 pub(crate) fn gift_told(held: &Option<Holding>) -> Option<Gift>
@@ -158,6 +159,70 @@ pub(crate) fn unbound_readiness(held: &Option<Holding>) -> Result<(), Lack>
         None => Ok(()),
         Some(_) => Err(Lack::Ended),
     }
+}
+
+/// A copy of the last token of the context of what is held.
+pub(crate) fn last_token(alloc: Global, held: &Holding) -> Result<Bytes, NoMemory>
+    requires { is_live held.now.context ≡ true }
+    ensures { IfOk result (λ token. IsTokenOf token (Some held.now)) }
+{
+    match &held.context {
+        None => unreachable!(),
+        Some(context) => match &context.token {
+            Token::Live(live) => Bytes::from_slice(alloc, live.token()),
+            Token::Spent(_) => unreachable!(),
+        },
+    }
+}
+
+/// What is held, with its last token, and the context that goes on behind it.
+pub(crate) fn ended_on(
+    held: Option<Holding>,
+    last: Bytes,
+) -> (Option<Holding>, negotiate_handler::Context)
+    requires live { IsLive held }
+    requires last { IsTokenOf last held }
+    ensures { result.0 ≡ option_map ended_told held }
+{
+    let Some(held) = held else {
+        unreachable!();
+    };
+    let Holding {
+        gift,
+        terms,
+        preemptive,
+        context,
+        space,
+        identity,
+        named,
+    } = held;
+    let Some(context) = context else {
+        unreachable!();
+    };
+    let Context {
+        token,
+        is_sent,
+        link,
+    } = context;
+    let Token::Live(live) = token else {
+        unreachable!();
+    };
+    let token = Token::Spent(last);
+    let context = Some(Context {
+        token,
+        is_sent,
+        link,
+    });
+    let held = Holding {
+        gift,
+        terms,
+        preemptive,
+        context,
+        space,
+        identity,
+        named,
+    };
+    (Some(held), live)
 }
 
 /// What is held behind a head over that link.

@@ -24,6 +24,7 @@ mod follow;
 mod gave;
 mod gear;
 mod go;
+mod go_on;
 mod holding;
 mod known;
 mod machine;

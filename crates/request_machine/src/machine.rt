@@ -8,7 +8,7 @@ use crate::open_link::OpenLink;
 use crate::stage::Stage;
 use auth_events::{Call, Gift};
 use auth_runs::Event;
-use auth_text::{Identity, NoMemory};
+use auth_text::{Bytes, Identity, NoMemory};
 use spaces::{Request, Roster, Space, Target, Terms};
 use std::alloc::Global;
 use std::marker::Model;
@@ -35,6 +35,7 @@ pub struct Machine {
     pub(crate) has_none: bool,
     pub(crate) prompt: u32,
     pub(crate) given: Option<Identity>,
+    pub(crate) peer: Option<Bytes>,
     pub(crate) unnamed_space: Option<Space>,
     pub(crate) unnamed_terms: Option<Terms>,
     pub(crate) space: Option<Space>,
@@ -68,6 +69,7 @@ impl Model for Machine {
       has_none = m.has_none;
       prompt = m.prompt;
       given = m.given;
+      peer = m.peer;
       unnamed_space = m.unnamed_space;
       unnamed_terms = m.unnamed_terms;
       space = m.space;
@@ -141,6 +143,7 @@ impl Machine {
             has_none: false,
             prompt: 0,
             given: None,
+            peer: None,
             unnamed_space: None,
             unnamed_terms: None,
             space: None,
@@ -191,6 +194,21 @@ impl Machine {
             Target::Server => self.hold_server(held),
             Target::Socks => (),
         }
+    }
+
+    /// The peer's token; then it is kept no more.
+    pub(crate) fn take_peer(&mut self) -> Option<Bytes>
+        ensures value { result ≡ self.old.peer }
+        ensures rest { self.new ≡ record self.old { peer = None } }
+    {
+        self.peer.take()
+    }
+
+    /// Keeps the peer's token.
+    pub(crate) fn put_peer(&mut self, peer: Bytes)
+        ensures { self.new ≡ record self.old { peer = Some peer } }
+    {
+        self.peer = Some(peer);
     }
 
     /// Keeps the space that is to be named.

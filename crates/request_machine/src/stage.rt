@@ -67,6 +67,8 @@ pub enum Stage {
     NameRenewal(Target, Gift),
     /// The gift is given these terms.
     Renew(Target, Gift, u32),
+    /// The provider is asked to go on, with the peer's token, for the target.
+    Continue(Target),
     /// The link's reply is read.
     Read(u32),
     /// The nonce that the last reply gives the target for the next request is looked for, before

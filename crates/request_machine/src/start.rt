@@ -34,7 +34,7 @@ impl Machine {
     ghost use Rattle.request_machine.specs.Provided.{TellsSteps, shown, step_faults};
 
     /// What is held for the target.
-    fn holding(&self, target: Target) -> Option<&Holding>
+    pub(crate) fn holding(&self, target: Target) -> Option<&Holding>
         ensures { option_copied result ≡ holding self.now target }
     {
         match target {
@@ -68,10 +68,9 @@ impl Machine {
     }
 
     /// Goes on by what the provider's step comes to.
-    fn stepped(&mut self, alloc: Global, target: Target, gift: Gift, stepped: Stepped)
+    pub(crate) fn stepped(&mut self, alloc: Global, target: Target, gift: Gift, stepped: Stepped)
         requires room { length self.old.past < 256 }
         requires few { self.old.rounds < 256 }
-        requires stage { self.old.stage ≡ Go }
         requires some { IsSome (holding self.old target) }
         requires gift { IfSome (holding self.old target) (λ held. held.gift ≡ gift) }
         requires begun { stepped ≡ Stepped.Refused SaidNone

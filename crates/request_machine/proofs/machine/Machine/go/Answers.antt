@@ -24,7 +24,7 @@ pub returns-in-Err-clause-unprompted : goal.returns-in-Err-clause-unprompted
 returns-in-Err-clause-unprompted g c = step_unprompted c.args.self.now c.lack.new.self c.lack.ensures.past c.lack.ensures.kept
 
 pub returns-in-Err-clause-traffic : goal.returns-in-Err-clause-traffic
-returns-in-Err-clause-traffic g c = tells_stepped c.args.request.now c.args.self.now c.lack.new.self _ _ c.requires.stage c.lack.ensures.past c.lack.ensures.kept
+returns-in-Err-clause-traffic g c = tells_stepped c.args.request.now c.args.self.now c.lack.new.self _ _ (ap (λ st. is_ending (way st)) c.requires.stage) c.lack.ensures.past c.lack.ensures.kept
 
 pub returns-in-Err-clause-faults : goal.returns-in-Err-clause-faults
 returns-in-Err-clause-faults g c = tells_link_still g.D.Dialer.sticks c.args.self.now c.lack.new.self _ _ (step_link_faults c.args.self.now.past c.lack.new.self.past c.lack.ensures.past) refl

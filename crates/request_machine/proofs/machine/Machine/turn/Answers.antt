@@ -1,5 +1,5 @@
 use Rattle.request_machine.proofs.Working.{pushed_less, less_left}
-use Rattle.std.proofs.Common.{inl, sym, ap, ◌∙◌, refl}
+use Rattle.std.proofs.Common.{inl, sym, ap, ◌∙◌, refl, arith}
 use Rattle.link_trait.specs.Told.{grown}
 use Rattle.trace_rule.specs.Telling.{dials}
 use Rattle.request_machine.specs.Kept.{Kept}
@@ -7,16 +7,16 @@ use Rattle.auth_runs.specs.declared.event.Event.TheVariants.{Ended}
 use Rattle.auth_runs.specs.declared.event.Outcome.TheVariants.{NoMemory}
 use Rattle.request_machine.specs.Failed.{link_faults}
 use Rattle.request_machine.proofs.Answering.{prompts_unprompted, unprompted_event, unprompted_faults, unprompted_line}
-use Rattle.request_machine.proofs.Carrying.{tells_asked, tells_same}
+use Rattle.request_machine.proofs.Carrying.{tells_asked, tells_same, tells_stepped}
 use Rattle.request_machine.proofs.Failing.{tells_ask_still, tells_link_still}
 use Rattle.request_machine.proofs.Sent.{tells_finished, tells_spent_over}
 use Rattle.request_machine.proofs.Driving.{driven_same, driven_asked}
-use Rattle.request_machine.proofs.Rooms.{tied_go, tied_read, tied_past, setting_tied}
+use Rattle.request_machine.proofs.Rooms.{tied_go, tied_continue, tied_answer, tied_read, tied_past, setting_tied}
 use Rattle.request_machine.proofs.NextNonces.{answer_there}
 use Rattle.request_machine.specs.Linked.{way, is_ending}
 use Rattle.request_machine.specs.Provided.{steps}
 use Rattle.request_machine.proofs.Carrying.{goes_ends}
-use Rattle.request_machine.proofs.Providing.{onward_ends, same_step_faults, tells_no_step}
+use Rattle.request_machine.proofs.Providing.{onward_ends, same_step_faults, step_dials, step_insides, step_link_faults, step_unprompted, tells_no_step}
 use Rattle.request_machine.proofs.machine.Machine.turn.Goals as goal
 
 pub returns-in-Ask-clause-dials : goal.returns-in-Ask-clause-dials
@@ -283,3 +283,45 @@ returns-in-Read-clause-steps_quiet g c = λ quiet. (quiet, same_step_faults c.ar
 
 pub returns-in-Read-clause-touched : goal.returns-in-Read-clause-touched
 returns-in-Read-clause-touched g c = inl (refl, c.read.ensures.steps)
+
+pub go_on-requires-clause-room : goal.go_on-requires-clause-room
+go_on-requires-clause-room g c = let room = (tied_continue c.args.request.now c.args.self.now c.in-Continue.target c.requires.tied (sym (ap (λ (v : Kept). v.stage) c.self.view_is) ∙ c.in-Continue.is)).past in omega (arith, room)
+
+pub go_on-requires-clause-few : goal.go_on-requires-clause-few
+go_on-requires-clause-few g c = (tied_continue c.args.request.now c.args.self.now c.in-Continue.target c.requires.tied (sym (ap (λ (v : Kept). v.stage) c.self.view_is) ∙ c.in-Continue.is)).rounds
+
+pub go_on-requires-clause-live : goal.go_on-requires-clause-live
+go_on-requires-clause-live g c = (tied_answer c.args.request.now c.args.self.now c.in-Continue.target c.requires.tied (sym (ap (λ (v : Kept). v.stage) c.self.view_is) ∙ c.in-Continue.is)).1
+
+pub go_on-requires-clause-peer : goal.go_on-requires-clause-peer
+go_on-requires-clause-peer g c = (tied_answer c.args.request.now c.args.self.now c.in-Continue.target c.requires.tied (sym (ap (λ (v : Kept). v.stage) c.self.view_is) ∙ c.in-Continue.is)).0
+
+pub returns-in-Continue-clause-driven : goal.returns-in-Continue-clause-driven
+returns-in-Continue-clause-driven g c = driven_same c.args.self.now c.go_on.new.self _ _ c.go_on.ensures.kept c.go_on.ensures.goes c.requires.linked c.requires.links c.requires.told
+
+pub returns-in-Continue-clause-dials : goal.returns-in-Continue-clause-dials
+returns-in-Continue-clause-dials g c = λ s before same t told. told ∙ ap (grown before) (sym (step_dials s c.args.self.now.past c.go_on.new.self.past c.go_on.ensures.past))
+
+pub returns-in-Continue-clause-insides : goal.returns-in-Continue-clause-insides
+returns-in-Continue-clause-insides g c = step_insides c.args.self.now.past c.go_on.new.self.past c.go_on.ensures.past
+
+pub returns-in-Continue-clause-provider : goal.returns-in-Continue-clause-provider
+returns-in-Continue-clause-provider g c = c.go_on.ensures.provider c.args.request.now
+
+pub returns-in-Continue-clause-traffic : goal.returns-in-Continue-clause-traffic
+returns-in-Continue-clause-traffic g c = tells_stepped c.args.request.now c.args.self.now c.go_on.new.self _ _ (ap (λ st. is_ending (way st)) (sym (ap (λ (v : Kept). v.stage) c.self.view_is) ∙ c.in-Continue.is)) c.go_on.ensures.past c.go_on.ensures.kept
+
+pub returns-in-Continue-clause-faults : goal.returns-in-Continue-clause-faults
+returns-in-Continue-clause-faults g c = tells_link_still g.D.Dialer.sticks c.args.self.now c.go_on.new.self _ _ (step_link_faults c.args.self.now.past c.go_on.new.self.past c.go_on.ensures.past) refl
+
+pub returns-in-Continue-clause-quiet : goal.returns-in-Continue-clause-quiet
+returns-in-Continue-clause-quiet g c = λ quiet. (quiet, step_link_faults c.args.self.now.past c.go_on.new.self.past c.go_on.ensures.past)
+
+pub returns-in-Continue-clause-prompts : goal.returns-in-Continue-clause-prompts
+returns-in-Continue-clause-prompts g c = prompts_unprompted c.args.request.now c.args.self.now c.go_on.new.self _ _ _ (step_unprompted c.args.self.now c.go_on.new.self c.go_on.ensures.past c.go_on.ensures.kept) refl
+
+pub returns-in-Continue-clause-prompt_faults : goal.returns-in-Continue-clause-prompt_faults
+returns-in-Continue-clause-prompt_faults g c = tells_ask_still g.P.Prompter.sticks c.args.self.now c.go_on.new.self _ _ (unprompted_faults c.args.self.now c.go_on.new.self (step_unprompted c.args.self.now c.go_on.new.self c.go_on.ensures.past c.go_on.ensures.kept)) refl
+
+pub returns-in-Continue-clause-prompt_quiet : goal.returns-in-Continue-clause-prompt_quiet
+returns-in-Continue-clause-prompt_quiet g c = λ quiet. (quiet, unprompted_faults c.args.self.now c.go_on.new.self (step_unprompted c.args.self.now c.go_on.new.self c.go_on.ensures.past c.go_on.ensures.kept))
