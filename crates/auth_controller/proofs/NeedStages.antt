@@ -14,7 +14,7 @@ use Rattle.request_machine.specs.declared.stage.Piece.{Piece}
 use Rattle.request_machine.specs.declared.stage.Piece.TheVariants.{Space as OfSpace, Identity as OfIdentity, Terms as OfTerms}
 use Rattle.request_machine.specs.declared.stage.Prompt.{Prompt}
 use Rattle.request_machine.specs.declared.stage.Stage.{Stage}
-use Rattle.request_machine.specs.declared.stage.Stage.TheVariants.{Go, Learn, Draw, Choose, NameSpace, NameTerms, Ask, NameText, NameRenewal, Continue, Read, NextNonce, NameLast, End, SpentOver, Over}
+use Rattle.request_machine.specs.declared.stage.Stage.TheVariants.{Go, Learn, Draw, Choose, NameSpace, NameTerms, Ask, NameText, NameRenewal, Continue, LoseLink, Read, NextNonce, NameLast, End, SpentOver, Over}
 use Rattle.request_machine.specs.Changed.{holding}
 use Rattle.request_machine.specs.Kept.{Kept}
 use Rattle.request_machine.specs.Needs.{need_at, need_of}
@@ -50,6 +50,7 @@ stage_kind Over = 8
 stage_kind Go = 9
 stage_kind (Choose t) = 9
 stage_kind (Continue t) = 9
+stage_kind (LoseLink link) = 9
 stage_kind (Read link) = 9
 stage_kind (NextNonce t c) = 9
 stage_kind (End outcome) = 9

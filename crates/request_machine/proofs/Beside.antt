@@ -5,7 +5,7 @@ use Rattle.spaces.specs.ProtectionSpaces.{ProtectionSpace}
 use Rattle.trace_rule.specs.Settings.{Setting}
 use Rattle.link_trait.specs.declared.links.LinkName.{LinkName}
 use Rattle.request_machine.specs.declared.stage.Stage.{Stage}
-use Rattle.request_machine.specs.declared.stage.Stage.TheVariants.{Call as Calling, Go, Learn, Draw, Choose, NameSpace, NameTerms, Select as Selecting, Ask, NameText, Answer as Answering, Cancel as Cancelling, Lose as Losing, Take as Taking, Reject as Rejecting, NameRenewal, Renew as Renewing, Continue, Read, NextNonce, NameLast, RenewLast, Close, End, Spent, SpentEnd, SpentOver, Over}
+use Rattle.request_machine.specs.declared.stage.Stage.TheVariants.{Call as Calling, Go, Learn, Draw, Choose, NameSpace, NameTerms, Select as Selecting, Ask, NameText, Answer as Answering, Cancel as Cancelling, Lose as Losing, Take as Taking, Reject as Rejecting, NameRenewal, Renew as Renewing, Continue, LoseLink, Read, NextNonce, NameLast, RenewLast, Close, End, Spent, SpentEnd, SpentOver, Over}
 use Rattle.request_machine.specs.Kept.{Kept, IsKept, Ties}
 
 kept_beside : (s : Setting) (m : Kept) (link : Option LinkName) (space : Option ProtectionSpace) (stage : Stage) → IsKept s m stage → IsKept s (record m { link = link; space = space }) stage
@@ -31,6 +31,7 @@ kept_beside s m link space (Renewing t gift terms) kept = kept
 kept_beside s m link space (Continue Proxy) kept = (record { token = kept.0.token; is_kept = kept.0.is_kept; wanted = kept.0.wanted }, kept.1)
 kept_beside s m link space (Continue Server) kept = (record { token = kept.0.token; is_kept = kept.0.is_kept; wanted = kept.0.wanted }, kept.1)
 kept_beside s m link space (Continue Socks) kept = absurd kept.1
+kept_beside s m link space (LoseLink on) kept = kept
 kept_beside s m link space (Read on) kept = kept
 kept_beside s m link space (NextNonce t c) kept = kept
 kept_beside s m link space (NameLast t gift c) kept = kept

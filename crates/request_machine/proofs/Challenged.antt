@@ -15,12 +15,14 @@ use Rattle.trace_rule.specs.Settings.{Setting, is_by_path}
 use Rattle.trace_rule.specs.Challenges.{challenged, challenges_target}
 use Rattle.trace_rule.specs.Holding.{Held, Decision, held, held_replied, carried, deciding}
 use Rattle.trace_rule.specs.Moves.{rejects, Move, move, replied, weighed, decided, select, rounds}
-use Rattle.trace_rule.specs.Closings.{carried_out, closings, note_for, note_of, is_challenged}
+use Rattle.trace_rule.specs.Closings.{carried_out, want, closings, note_for, note_of, is_challenged}
+use Rattle.trace_rule.specs.Moves.Want.{Loses}
+use Rattle.trace_laws.proofs.LastLinks.{replies_on_last}
 use Rattle.trace_rule.specs.Moves.Move.{Closes}
 use Rattle.trace_rule.specs.Traces.{is_end, can_be, may_cut}
 use Rattle.request_machine.specs.declared.holding.Holding.{Holding}
 use Rattle.request_machine.specs.declared.stage.Stage.{Stage}
-use Rattle.request_machine.specs.declared.stage.Stage.TheVariants.{Reject as Rejecting, NameRenewal, Continue, Read, Choose, Close, Spent}
+use Rattle.request_machine.specs.declared.stage.Stage.TheVariants.{Reject as Rejecting, NameRenewal, Continue, LoseLink, Read, Choose, Close, Spent}
 use Rattle.request_machine.specs.Kept.{IsKept, Kept, Ties, IsHeld, held_kept, is_after_end, gift_by_path, note_call}
 use Rattle.request_machine.specs.Told.{unless_it}
 use Rattle.request_machine.proofs.Quiet.{IsNext, same_held}
@@ -168,17 +170,20 @@ to_continue s m link reply x same may t =
       open_still = only_end s m (Read link) same t (λ n e. e);
     }
 
--- memory runs out behind it
-pub to_spend : (s : Setting) (m : Kept) (link : ℕ) (reply : Reply) → m.stage ≡ Read link → IsTrue (can_be reply) → Ties s m → IsNext s (Replied link reply ∷ m.past) Spent
-to_spend s m link reply same may t =
+-- over one that did not
+pub to_lose : (s : Setting) (m : Kept) (link : ℕ) (reply : Reply) → m.stage ≡ Read link → IsTrue (can_be reply) → want s (Replied link reply ∷ m.past) ≡ Loses link → Ties s m → IsNext s (Replied link reply ∷ m.past) (LoseLink link)
+to_lose s m link reply same may wanted t =
     let no_end : list_any is_end m.past ≡ false = t.ended ∙ ap is_after_end same in
-    let cut : may_cut (Replied link reply ∷ m.past) ≡ true = rw no_end refl in
     record {
-      stands = record { is_past = reads_past s m link (Replied link reply) same t (refl, may); may_cut = cut };
+      stands = (reads_past s m link (Replied link reply) same t (refl, may), wanted);
       ended = no_end;
-      may_stop = cut;
-      open_still = tt;
+      may_stop = rw no_end refl;
+      open_still = only_end s m (Read link) same t (λ n e. e);
     }
+
+-- it is the one that was dialed last
+pub reply_last : (s : Setting) (m : Kept) (link : ℕ) (reply : Reply) → m.stage ≡ Read link → IsTrue (can_be reply) → Ties s m → link ≡ m.links
+reply_last s m link reply same may t = replies_on_last s m.past link reply (reads_past s m link (Replied link reply) same t (refl, may)) ∙ t.links
 
 -- the seventeenth round ends the request, and notes what was carried for the other target
 pub notes_by : (s : Setting) (whole : List Event) (x : Target) (c : Option Held) (b : Bool) → is_challenged s whole x ≡ b → unwrap_or (option_map (note_of s whole x) c) [] ≡ note_call (if b then None else option_and_then (gift_by_path s) c) []

@@ -22,13 +22,13 @@ use Rattle.trace_rule.specs.Moves.Move.{Goes}
 use Rattle.trace_rule.specs.Traces.{can_be}
 use Rattle.request_machine.specs.declared.holding.Holding.{Holding}
 use Rattle.request_machine.specs.declared.stage.Stage.{Stage}
-use Rattle.request_machine.specs.declared.stage.Stage.TheVariants.{Reject as Rejecting, NameRenewal, Continue, Read, Choose, Close, Spent}
+use Rattle.request_machine.specs.declared.stage.Stage.TheVariants.{Reject as Rejecting, NameRenewal, Continue, LoseLink, Read, Choose, Close}
 use Rattle.request_machine.specs.Kept.{Kept, Ties, IsKept, IsHeld, held_kept}
 use Rattle.request_machine.specs.Chosen.{stale_terms}
 use Rattle.request_machine.specs.Changed.{holding}
 use Rattle.request_machine.specs.Contexts.{stage_continued}
 use Rattle.request_machine.specs.Told.{IsLive, held_rejected, held_last, is_live, unless_it}
-use Rattle.request_machine.proofs.Challenged.{challenge_ties, challenges_it, held_elsewhere, held_challenged, kept_decided, nothing_held, to_choose, to_continue, to_reject, to_renew, to_rounds, to_spend, moves_decided}
+use Rattle.request_machine.proofs.Challenged.{challenge_ties, challenges_it, held_elsewhere, held_challenged, kept_decided, nothing_held, to_choose, to_continue, to_reject, to_renew, to_lose, to_rounds, moves_decided, reply_last}
 use Rattle.request_machine.proofs.Quiet.{IsNext}
 use Rattle.request_machine.proofs.Reading.{read_peer, read_unnamed}
 
@@ -111,9 +111,9 @@ rejects_ties s m link reply x h decision same may few is fresh t =
 
 -- the context goes on, where the link stays
 pub continues_ties : (s : Setting) (m : Kept) (link : ℕ) (reply : Reply) (t : Target) (h : Holding) (peer : List ℕ) → m.stage ≡ Read link → IsTrue (can_be reply) → nat_le 17 (m.rounds + 1) ≡ false
-    → IsDecided s m reply t h (Negotiating (Some peer)) → is_live h.context ≡ true → Ties s m
-    → Ties s (record m { past = Replied link reply ∷ m.past; stage = stage_continued reply.stays t; rounds = m.rounds + 1; code = reply.code; peer = Some peer })
-continues_ties s m link reply x h peer same may few is live t = at reply.stays refl
+    → IsDecided s m reply t h (Negotiating (Some peer)) → is_live h.context ≡ true → m.is_dialed ≡ false → Ties s m
+    → Ties s (record m { past = Replied link reply ∷ m.past; stage = stage_continued reply.stays link t; rounds = m.rounds + 1; code = reply.code; peer = Some peer })
+continues_ties s m link reply x h peer same may few is live undialed t = at reply.stays refl
   where
     before : Kept
     before = record m { peer = Some peer }
@@ -131,15 +131,20 @@ continues_ties s m link reply x h peer same may few is live t = at reply.stays r
     decided_so : IsDecided s before reply x h (Negotiating (Some peer))
     decided_so = record { target = is.target; held = same_holding x ∙ is.held; decides = is.decides }
 
-    at : (b : Bool) → reply.stays ≡ b → Ties s (record before { past = Replied link reply ∷ m.past; stage = stage_continued b x; rounds = m.rounds + 1; code = reply.code })
-    at true stays =
-        let moves : move s (Replied link reply ∷ m.past) ≡ Goes (Steps x (GoOn peer)) =
+    moves_by : (b : Bool) → reply.stays ≡ b → move s (Replied link reply ∷ m.past) ≡ (if b then Goes (Steps x (GoOn peer)) else Goes (Loses link))
+    moves_by b stays =
         moves_decided s m link reply x h (Negotiating (Some peer)) is.target (held_at s m reply x h (Negotiating (Some peer)) is t) is.decides few t
-        ∙ ap (λ b. if b then Goes (Steps x (GoOn peer)) else Goes (Loses link)) stays in
+        ∙ ap (λ b. if b then Goes (Steps x (GoOn peer)) else Goes (Loses link)) stays
+
+    at : (b : Bool) → reply.stays ≡ b → Ties s (record before { past = Replied link reply ∷ m.past; stage = stage_continued b link x; rounds = m.rounds + 1; code = reply.code })
+    at true stays =
+        let moves : move s (Replied link reply ∷ m.past) ≡ Goes (Steps x (GoOn peer)) = moves_by true stays in
         decided_ties s before link reply x h (Negotiating (Some peer)) (Continue x) same decided_so
         (record { token = peer; is_kept = refl; wanted = ap (carried_out s (Replied link reply ∷ m.past)) moves }, live_behind x (Continue x) is.held)
         (to_continue s m link reply x same may t) (read_peer s m link (Some peer) same t)
-    at false stays = decided_ties s before link reply x h (Negotiating (Some peer)) Spent same decided_so tt (to_spend s m link reply same may t) (read_peer s m link (Some peer) same t)
+    at false stays =
+        decided_ties s before link reply x h (Negotiating (Some peer)) (LoseLink link) same decided_so (reply_last s m link reply same may t, undialed)
+        (to_lose s m link reply same may (ap (carried_out s (Replied link reply ∷ m.past)) (moves_by false stays)) t) (read_peer s m link (Some peer) same t)
 
 -- the seventeenth round
 last_held : (s : Setting) (past : List Event) (link : ℕ) (reply : Reply) (t : Target) (h : Option Holding) (kept : Bool) → challenges_target s reply t ≡ true

@@ -257,6 +257,9 @@ driven_headed m n link before opened dials_before dials was now dialed last same
 pub reading_open : (m : Kept) (link : ℕ) (opened : List LinkName) → m.stage ≡ Read link → IsLinked m → IsOnlyLink (line m) opened → IsLinkOpen m.link opened
 reading_open m link opened was linked only = link_open m opened (subst (λ w. IsLinkedOn w (line m)) (ap way was) linked).0 only
 
+pub reading_undialed : (m : Kept) (link : ℕ) → m.stage ≡ Read link → IsLinked m → m.is_dialed ≡ false
+reading_undialed m link was linked = (subst (λ w. IsLinkedOn w (line m)) (ap way was) linked).1
+
 away_linked : (w : Way) (link : ℕ) (l : Line) → IsTrue (is_away w) → IsLinkedOn (Reading link) l → IsLinkedOn w (closed_line l)
 away_linked Onward link l away on = (sym on.1, on.2)
 away_linked Ending link l away on = tt

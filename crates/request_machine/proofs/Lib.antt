@@ -48,4 +48,5 @@ pub mod Turning
 pub mod Giving
 pub mod Providing
 pub mod Continuing
+pub mod Losing
 pub mod Unasked

@@ -5,7 +5,7 @@ use Rattle.auth_events.specs.declared.journal.Call.{Call}
 use Rattle.auth_events.specs.declared.journal.Call.TheVariants.{Renew, End as CallEnd}
 use Rattle.trace_rule.specs.Settings.{Setting}
 use Rattle.request_machine.specs.declared.stage.Stage.{Stage}
-use Rattle.request_machine.specs.declared.stage.Stage.TheVariants.{Call as Calling, Go, Learn, Draw, Choose, NameSpace, NameTerms, Select as Selecting, Ask, NameText, Answer as Answering, Cancel as Cancelling, Lose as Losing, Take as Taking, Reject as Rejecting, NameRenewal, Renew as Renewing, Continue, Read, NextNonce, NameLast, RenewLast, Close, End, Spent, SpentEnd, SpentOver, Over}
+use Rattle.request_machine.specs.declared.stage.Stage.TheVariants.{Call as Calling, Go, Learn, Draw, Choose, NameSpace, NameTerms, Select as Selecting, Ask, NameText, Answer as Answering, Cancel as Cancelling, Lose as Losing, Take as Taking, Reject as Rejecting, NameRenewal, Renew as Renewing, Continue, LoseLink, Read, NextNonce, NameLast, RenewLast, Close, End, Spent, SpentEnd, SpentOver, Over}
 use Rattle.request_machine.specs.Kept.{Kept, IsKept, Ties, IsStage, note_call, calls_left, renewals_behind}
 use Rattle.request_machine.specs.Needs.{first_left, IsWantedAt}
 use Rattle.request_machine.proofs.Ending.{closing_wants}
@@ -34,6 +34,7 @@ wanted_at s m (Rejecting t gift) at kept = at.1
 wanted_at s m (NameRenewal t gift) at kept = kept
 wanted_at s m (Renewing t gift terms) at kept = at.1
 wanted_at s m (Continue t) at kept = tt
+wanted_at s m (LoseLink link) at kept = tt
 wanted_at s m (Read link) at kept = tt
 wanted_at s m (NextNonce t c) at kept = tt
 wanted_at s m (NameLast t gift c) at kept = kept.1

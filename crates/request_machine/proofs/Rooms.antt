@@ -15,7 +15,7 @@ use Rattle.trace_rule.proofs.HeadCount.{heads_bound}
 use Rattle.trace_laws.proofs.Counted.{few_links, few_if}
 use Rattle.trace_laws.proofs.Sums.{short_pasts}
 use Rattle.request_machine.specs.declared.stage.Stage.{Stage}
-use Rattle.request_machine.specs.declared.stage.Stage.TheVariants.{Call as Calling, Go, Learn, Draw, Choose, NameSpace, NameTerms, NameRenewal, Renew as Renewing, NextNonce, NameLast, RenewLast, Select as Selecting, Ask, NameText, Answer as Answering, Cancel as Cancelling, Lose as Losing, Take as Taking, Reject as Rejecting, Continue, Read, Close, End, Spent, SpentEnd, SpentOver, Over}
+use Rattle.request_machine.specs.declared.stage.Stage.TheVariants.{Call as Calling, Go, Learn, Draw, Choose, NameSpace, NameTerms, NameRenewal, Renew as Renewing, NextNonce, NameLast, RenewLast, Select as Selecting, Ask, NameText, Answer as Answering, Cancel as Cancelling, Lose as Losing, Take as Taking, Reject as Rejecting, Continue, LoseLink, Read, Close, End, Spent, SpentEnd, SpentOver, Over}
 use Rattle.request_machine.specs.declared.need.Need.TheVariants.{SpaceNo, TermsNo, TextNo}
 use Rattle.request_machine.specs.Kept.{Kept, Ties, IsStage, IsKept, IsTied, holding, lost_at}
 use Rattle.request_machine.specs.Told.{IsLive}
@@ -66,6 +66,7 @@ module _ (s : Setting) (numbers : IsNumbered s) where
   short_at past (Taking p) at = short past at.0
   short_at past (Rejecting t gift) at = short past at.0
   short_at past (Continue t) at = short past at
+  short_at past (LoseLink link) at = short past at.0
   short_at past (Read link) at = short past at.0
   short_at past (Close c) at = short past at.0
   short_at past (End outcome) at = short past at.0
@@ -94,6 +95,7 @@ module _ (s : Setting) (numbers : IsNumbered s) where
   room_at : (m : Kept) (stage : Stage) → Ties s m → IsStage s m.past stage → HasRoomAt stage m
   room_at m Go t at = go_room m t at.0
   room_at m (Continue x) t at = read_room m t at
+  room_at m (LoseLink link) t at = past_room m t
   room_at m (Read link) t at = read_room m t at.0
   room_at m (Calling call) t at = past_room m t
   room_at m (Learn x piece) t at = past_room m t
@@ -192,6 +194,7 @@ idle_goes request m tied idle = at m.stage refl
     at (Learn t piece) same = refl
     at (Choose t) same = refl
     at (Continue t) same = refl
+    at (LoseLink link) same = refl
     at (Read link) same = refl
     at (Ask p ordinal) same = refl
     at (NextNonce t c) same = refl

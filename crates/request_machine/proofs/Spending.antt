@@ -13,7 +13,7 @@ use Rattle.trace_rule.specs.Settings.{Setting}
 use Rattle.trace_rule.specs.Moves.{rounds}
 use Rattle.trace_rule.specs.Traces.{IsPast, is_end, with_loss}
 use Rattle.request_machine.specs.declared.stage.Stage.{Stage}
-use Rattle.request_machine.specs.declared.stage.Stage.TheVariants.{Call as Calling, Go, Learn, Draw, Choose, NameSpace, NameTerms, Select as Selecting, Ask, NameText, Answer as Answering, Cancel as Cancelling, Lose as Losing, Take as Taking, Reject as Rejecting, NameRenewal, Renew as Renewing, Continue, Read, NextNonce, NameLast, RenewLast, Close, End, Spent, SpentEnd, SpentOver, Over}
+use Rattle.request_machine.specs.declared.stage.Stage.TheVariants.{Call as Calling, Go, Learn, Draw, Choose, NameSpace, NameTerms, Select as Selecting, Ask, NameText, Answer as Answering, Cancel as Cancelling, Lose as Losing, Take as Taking, Reject as Rejecting, NameRenewal, Renew as Renewing, Continue, LoseLink, Read, NextNonce, NameLast, RenewLast, Close, End, Spent, SpentEnd, SpentOver, Over}
 use Rattle.request_machine.specs.Kept.{Kept, Ties, IsStage, IsSpentAt, lost_at, is_after_end, can_stop, is_regular}
 use Rattle.request_machine.proofs.Quiet.{quiet_ties, same_held, end_still, outcome_still}
 use Rattle.request_machine.proofs.Prompts.{open_settled}
@@ -37,6 +37,7 @@ regular_past s past (Rejecting t gift) regular at = at.0
 regular_past s past (NameRenewal t gift) regular at = at.0
 regular_past s past (Renewing t gift terms) regular at = at.0
 regular_past s past (Continue t) regular at = at
+regular_past s past (LoseLink link) regular at = at.0
 regular_past s past (Read link) regular at = at.0
 regular_past s past (NextNonce t c) regular at = at.0.is_past
 regular_past s past (NameLast t gift c) regular at = at.0.is_past
@@ -67,6 +68,7 @@ not_ended (Rejecting t gift) stop = refl
 not_ended (NameRenewal t gift) stop = refl
 not_ended (Renewing t gift terms) stop = refl
 not_ended (Continue t) stop = refl
+not_ended (LoseLink link) stop = refl
 not_ended (Read link) stop = refl
 not_ended (NextNonce t c) stop = refl
 not_ended (NameLast t gift c) stop = refl

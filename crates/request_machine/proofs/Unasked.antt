@@ -15,7 +15,7 @@ use Rattle.trace_rule.specs.Traces.{IsPast, IsRun, IsCut, Follows, prompt_open, 
 use Rattle.trace_rule.proofs.Drops.{none_missing}
 use Rattle.trace_rule.proofs.Stepping.{step_for}
 use Rattle.request_machine.specs.declared.stage.Stage.{Stage}
-use Rattle.request_machine.specs.declared.stage.Stage.TheVariants.{NextNonce, NameLast, RenewLast, Spent, SpentEnd, SpentOver, Over, Call as Calling, Go, Learn, Draw, Choose, NameSpace, NameTerms, NameRenewal, Renew as Renewing, Select as Selecting, Ask, NameText, Answer as Answering, Cancel as Cancelling, Lose as Losing, Take as Taking, Reject as Rejecting, Continue, Read, Close, End}
+use Rattle.request_machine.specs.declared.stage.Stage.TheVariants.{NextNonce, NameLast, RenewLast, Spent, SpentEnd, SpentOver, Over, Call as Calling, Go, Learn, Draw, Choose, NameSpace, NameTerms, NameRenewal, Renew as Renewing, Select as Selecting, Ask, NameText, Answer as Answering, Cancel as Cancelling, Lose as Losing, Take as Taking, Reject as Rejecting, Continue, LoseLink, Read, Close, End}
 use Rattle.request_machine.specs.Kept.{Kept, Ties, IsStage, IsSettingOf}
 use Rattle.request_machine.specs.Provided.{steps, IsTouchedBySteps}
 use Rattle.request_machine.specs.Rooms.{HasSettingIn}
@@ -66,6 +66,7 @@ module _ (s : Setting) (numbers : IsNumbered s) (never : s.has_negotiate ≡ fal
   steps_at past (Taking p) at = no_steps past at.0
   steps_at past (Rejecting t gift) at = no_steps past at.0
   steps_at past (Continue t) at = no_steps past at
+  steps_at past (LoseLink link) at = no_steps past at.0
   steps_at past (Read link) at = no_steps past at.0
   steps_at past (Close c) at = no_steps past at.0
   steps_at past (End outcome) at = no_steps past at.0

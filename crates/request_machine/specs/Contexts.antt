@@ -26,7 +26,7 @@ use Rattle.request_machine.specs.declared.holding.Holding.{Holding}
 use Rattle.request_machine.specs.declared.holding.Token.TheVariants.{Live}
 use Rattle.request_machine.specs.declared.stage.Closing.{Closing}
 use Rattle.request_machine.specs.declared.stage.Stage.{Stage}
-use Rattle.request_machine.specs.declared.stage.Stage.TheVariants.{Continue, Reject, Close, Spent}
+use Rattle.request_machine.specs.declared.stage.Stage.TheVariants.{Go, Continue, LoseLink, Reject, Close}
 use Rattle.request_machine.specs.declared.known.Lack.{Lack}
 use Rattle.request_machine.specs.declared.known.Lack.TheVariants.{Context as Begun}
 use Rattle.request_machine.specs.Kept.{Kept, holding}
@@ -88,8 +88,12 @@ abbrev pub stage_refused : ℕ → Target → Gift → Closing → Stage
 stage_refused rounds t gift closing = if nat_le 16 rounds then Close closing else Reject t gift
 
 -- behind a token of the peer the context goes on, where the link stays
-abbrev pub stage_continued : Bool → Target → Stage
-stage_continued stays t = if stays then Continue t else Spent
+abbrev pub stage_continued : Bool → ℕ → Target → Stage
+stage_continued stays link t = if stays then Continue t else LoseLink link
+
+-- the first lost link of a request is made up for by a new one, and the second ends it
+abbrev pub stage_lost : Bool → Closing → Stage
+stage_lost lost closing = if lost then Close closing else Go
 
 -- WHERE A STEP IS WANTED
 

@@ -22,7 +22,7 @@ use Rattle.trace_rule.specs.Holding.{Context as HeldContext}
 use Rattle.trace_rule.specs.Heads.{drawn}
 use Rattle.trace_rule.specs.Moves.{move, go, select, known, rounds, terms_led, is_answered, space_offered}
 use Rattle.trace_rule.specs.Closings.{want, closings, closings_made, renewal_for}
-use Rattle.trace_rule.specs.Moves.Want.{Calls, Answers, Asks, Steps, Draws, Reads, Ends}
+use Rattle.trace_rule.specs.Moves.Want.{Calls, Answers, Asks, Steps, Draws, Reads, Loses, Ends}
 use Rattle.trace_rule.specs.Moves.Asking.{GoOn}
 use Rattle.trace_rule.specs.Moves.Move.{Goes, Closes}
 use Rattle.trace_rule.specs.Traces.{IsPast, IsRun, IsCut, may_cut, is_end, prompt_open, space_prompted, with_loss}
@@ -40,7 +40,7 @@ use Rattle.request_machine.specs.Told.{IsReady, IsLack, IsLive, token_kept, is_f
 use Rattle.request_machine.specs.declared.stage.Closing.{Closing}
 use Rattle.request_machine.specs.declared.stage.Prompt.{Prompt}
 use Rattle.request_machine.specs.declared.stage.Stage.{Stage}
-use Rattle.request_machine.specs.declared.stage.Stage.TheVariants.{Call as Calling, Go, Learn, Draw, Choose, NameSpace, NameTerms, Select as Selecting, Ask, NameText, Answer as Answering, Cancel as Cancelling, Lose as Losing, Take as Taking, Reject as Rejecting, NameRenewal, Renew as Renewing, Continue, Read, NextNonce, NameLast, RenewLast, Close, End, Spent, SpentEnd, SpentOver, Over}
+use Rattle.request_machine.specs.declared.stage.Stage.TheVariants.{Call as Calling, Go, Learn, Draw, Choose, NameSpace, NameTerms, Select as Selecting, Ask, NameText, Answer as Answering, Cancel as Cancelling, Lose as Losing, Take as Taking, Reject as Rejecting, NameRenewal, Renew as Renewing, Continue, LoseLink, Read, NextNonce, NameLast, RenewLast, Close, End, Spent, SpentEnd, SpentOver, Over}
 
 pub record Kept : Type 0 where
   pub number : ℕ
@@ -310,6 +310,7 @@ IsStage s past (Rejecting t gift) = IsPast s past × (want s past ≡ Calls (Rej
 IsStage s past (NameRenewal t gift) = IsPast s past × IsOfTarget s gift.space t × IsChallenged s past t
 IsStage s past (Renewing t gift terms) = IsPast s past × (want s past ≡ Calls (Renew gift terms)) × IsOfTarget s gift.space t × IsChallenged s past t
 IsStage s past (Continue t) = IsPast s past
+IsStage s past (LoseLink link) = IsPast s past × (want s past ≡ Loses link)
 IsStage s past (Read link) = IsPast s past × (want s past ≡ Reads link) × ((x : Target) → held s past x ≡ option_map (held_headed link) (carried s past x))
 IsStage s past (NextNonce t c) = IsAnswered s past c × (closings_left s past c.outcome ≡ renewals_from s past t ++ map Some (calls_left c)) × AreCarriedFrom s past t
 IsStage s past (NameLast t gift c) = IsAnswered s past c × IsOfTarget s gift.space t × AreCarriedBehind s past t
@@ -369,6 +370,7 @@ IsKept s m (NameTerms t n) = AreTermsPicked s m.past m.unnamed_terms t n
 IsKept s m (NameText p) = IsSome m.given
 IsKept s m (NameRenewal t gift) = IsStale s m.past m.unnamed_terms gift
 IsKept s m (Continue t) = IsAnswerLeft s m.past m.peer t × IsLive (holding m t)
+IsKept s m (LoseLink link) = (link ≡ m.links) × (m.is_dialed ≡ false)
 IsKept s m (Read link) = IfSome m.proxy IsReady × IfSome m.server IsReady
 IsKept s m (NextNonce t c) = AreReadyFrom m.proxy m.server t
 IsKept s m (NameLast t gift c) = AreReadyBehind m.server t × IsRenewalLeft s m.past m.unnamed_terms t gift c

@@ -80,6 +80,10 @@ ended_on context = record context { token = Spent (token_kept context.token) }
 abbrev pub ended_told : Holding → Holding
 ended_told h = record h { context = option_map ended_on h.context }
 
+-- with its link a context is lost
+abbrev pub lost_told : Holding → Holding
+lost_told h = record h { context = None }
+
 -- the link that its context has bound
 abbrev pub link_told : Option Holding → Option ℕ
 link_told h = option_and_then (λ c. c.link) (context_held h)

@@ -5,7 +5,7 @@ use Rattle.link_trait.specs.declared.links.LinkName.{LinkName}
 use Rattle.link_trait.specs.Links.{has_link, without_link}
 use Rattle.spaces.specs.declared.site.Target.TheVariants.{Proxy}
 use Rattle.request_machine.specs.declared.stage.Stage.{Stage}
-use Rattle.request_machine.specs.declared.stage.Stage.TheVariants.{Go, Learn, Choose, Continue, Read, Ask, NextNonce, End, Spent, SpentOver}
+use Rattle.request_machine.specs.declared.stage.Stage.TheVariants.{Go, Learn, Choose, Continue, LoseLink, Read, Ask, NextNonce, End, Spent, SpentOver}
 use Rattle.request_machine.specs.Kept.{Kept}
 use Rattle.request_machine.specs.Needs.{need_at}
 
@@ -38,6 +38,7 @@ is_going Go = true
 is_going (Learn t piece) = true
 is_going (Choose t) = true
 is_going (Continue t) = true
+is_going (LoseLink link) = true
 is_going (Read link) = true
 is_going (Ask p ordinal) = true
 is_going (NextNonce t c) = true

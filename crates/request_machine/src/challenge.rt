@@ -16,15 +16,15 @@ use auth_text::Bytes;
 use spaces::{Target, Terms};
 
 /// Where the request stands behind a token of the peer.
-fn stage_continued(stays: bool, target: Target) -> Stage
-    ensures stage { result ≡ stage_continued stays target }
+fn stage_continued(stays: bool, link: u32, target: Target) -> Stage
+    ensures stage { result ≡ stage_continued stays link target }
     ensures away { IsTrue (is_away (way result)) }
     ensures free { is_waiting result ≡ false }
 {
     if stays {
         Stage::Continue(target)
     } else {
-        Stage::Spent
+        Stage::LoseLink(link)
     }
 }
 
@@ -109,12 +109,12 @@ impl Machine {
         self.stage = Stage::NameRenewal(target, gift);
     }
 
-    /// The reply challenges the target, and brings the token that the context waits for. So far no
-    /// new link makes up for one that did not stay.
+    /// The reply challenges the target, and brings the token that the context waits for.
     fn continues(&mut self, link: u32, reply: Reply, target: Target, peer: Bytes)
         requires room { length self.old.past < 256 }
         requires stage { self.old.stage ≡ Stage.Read link }
         requires reply { IsTrue (can_be reply) }
+        requires undialed { self.old.is_dialed ≡ false }
         requires few { self.old.rounds < 16 }
         requires ready { IfSome (holding self.old target) IsReady }
         ensures past { self.new.past ≡ Event.Replied link reply ∷ self.old.past }
@@ -131,7 +131,7 @@ impl Machine {
         self.push(Event::Replied { link, reply });
         self.code = code;
         self.rounds += 1;
-        self.stage = stage_continued(stays, target);
+        self.stage = stage_continued(stays, link, target);
     }
 
     fn hold_last(&mut self, target: Target, decides: bool)
@@ -185,6 +185,7 @@ impl Machine {
         requires room { length self.old.past < 256 }
         requires stage { self.old.stage ≡ Stage.Read link }
         requires reply { IsTrue (can_be reply) }
+        requires undialed { self.old.is_dialed ≡ false }
         requires few { self.old.rounds < 256 }
         requires ready { IfSome (holding self.old target) IsReady }
         ensures past { self.new.past ≡ Event.Replied link reply ∷ self.old.past }

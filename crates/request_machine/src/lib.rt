@@ -27,6 +27,7 @@ mod go;
 mod go_on;
 mod holding;
 mod known;
+mod lose;
 mod machine;
 mod naming;
 mod need;

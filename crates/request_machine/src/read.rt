@@ -177,6 +177,7 @@ impl Machine {
         requires few_rounds { self.old.rounds < 256 }
         requires stage { self.old.stage ≡ Stage.Read link }
         requires reply { IsTrue (can_be reply) }
+        requires undialed { self.old.is_dialed ≡ false }
         requires tied { IsTied self.old request.now }
         ensures free { is_waiting self.new.stage ≡ false }
         ensures less { work_left self.new ≤ work_left self.old }

@@ -69,6 +69,8 @@ pub enum Stage {
     Renew(Target, Gift, u32),
     /// The provider is asked to go on, with the peer's token, for the target.
     Continue(Target),
+    /// The bound link did not stay: its contexts are lost with it.
+    LoseLink(u32),
     /// The link's reply is read.
     Read(u32),
     /// The nonce that the last reply gives the target for the next request is looked for, before

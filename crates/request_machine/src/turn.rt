@@ -88,6 +88,7 @@ impl Machine {
             Stage::Go => self.go(alloc, request, dialer, tokens),
             Stage::Choose(target) => self.choose(alloc, request, target),
             Stage::Continue(target) => self.go_on(alloc, tokens, target),
+            Stage::LoseLink(link) => self.lose(link),
             Stage::Read(link) => self.read(alloc, request, dialer, link),
             Stage::Ask(prompt, ordinal) => self.ask_next(prompter, prompt, ordinal),
             Stage::NextNonce(target, closing) => self.renew_next(alloc, target, closing),

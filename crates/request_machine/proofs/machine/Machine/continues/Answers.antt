@@ -18,4 +18,4 @@ returns-clause-ties c = λ s some is t.
     (sym (c.self.view_is ∙ c.push.ensures ∙ ap (λ (m : Kept). record m { past = Replied c.args.link c.args.reply ∷ m.past }) c.put_peer.ensures))
     (subst (λ st. Ties s (record m { past = Replied c.args.link c.args.reply ∷ m.past; stage = st; rounds = m.rounds + 1; code = c.args.reply.code; peer = Some c.args.peer })) (sym c.stage_continued-self-inside.ensures.stage)
     (continues_ties s m c.args.link c.args.reply c.args.target by.held c.args.peer c.requires.stage c.requires.reply (few_rounds m.rounds c.requires.few) of
-    (continuing_live s m c.args.reply c.args.target by.held (Some c.args.peer) c.requires.ready of t) t))
+    (continuing_live s m c.args.reply c.args.target by.held (Some c.args.peer) c.requires.ready of t) c.requires.undialed t))

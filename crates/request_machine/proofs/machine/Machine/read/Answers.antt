@@ -1,11 +1,12 @@
 use Rattle.request_machine.proofs.Working.{closed_left, closed_pushed}
-use Rattle.std.proofs.Common.{refl, sym, subst}
+use Rattle.std.proofs.Common.{refl, sym, subst, ap, ◌∙◌}
+use Rattle.request_machine.specs.Kept.{Kept}
 use Rattle.request_machine.specs.Carried.{ReadsInto}
 use Rattle.request_machine.proofs.Answering.{unprompted_reading}
 use Rattle.request_machine.proofs.Carrying.{tells_reading}
 use Rattle.request_machine.proofs.Failing.{tells_link_read, read_no_fault}
 use Rattle.request_machine.proofs.Nearing.{closed_nearer, read_nearer}
-use Rattle.request_machine.proofs.Driving.{driven_reading}
+use Rattle.request_machine.proofs.Driving.{driven_reading, reading_undialed}
 use Rattle.request_machine.proofs.machine.Machine.read.Goals as goal
 
 pub returns-in-Whole-clause-driven : goal.returns-in-Whole-clause-driven
@@ -163,3 +164,7 @@ returns-in-Failed-clause-nearer g c = read_nearer c.args.self.now c.read_failed.
 
 pub returns-in-NoMemory-clause-nearer : goal.returns-in-NoMemory-clause-nearer
 returns-in-NoMemory-clause-nearer g c = read_nearer c.args.self.now c.spend.new.self c.args.link c.requires.stage c.spend.ensures.asks
+
+pub replied-requires-clause-undialed : goal.replied-requires-clause-undialed
+replied-requires-clause-undialed g c =
+    ap (λ (v : Kept). v.is_dialed) c.read_link.ensures.same ∙ reading_undialed c.args.self.now c.args.link c.requires.stage c.requires.linked

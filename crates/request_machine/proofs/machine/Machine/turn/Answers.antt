@@ -3,7 +3,7 @@ use Rattle.std.proofs.Common.{inl, sym, ap, ◌∙◌, refl, arith}
 use Rattle.link_trait.specs.Told.{grown}
 use Rattle.trace_rule.specs.Telling.{dials}
 use Rattle.request_machine.specs.Kept.{Kept}
-use Rattle.auth_runs.specs.declared.event.Event.TheVariants.{Ended}
+use Rattle.auth_runs.specs.declared.event.Event.TheVariants.{Ended, LinkLost}
 use Rattle.auth_runs.specs.declared.event.Outcome.TheVariants.{NoMemory}
 use Rattle.request_machine.specs.Failed.{link_faults}
 use Rattle.request_machine.proofs.Answering.{prompts_unprompted, unprompted_event, unprompted_faults, unprompted_line}
@@ -17,6 +17,7 @@ use Rattle.request_machine.specs.Linked.{way, is_ending}
 use Rattle.request_machine.specs.Provided.{steps}
 use Rattle.request_machine.proofs.Carrying.{goes_ends}
 use Rattle.request_machine.proofs.Providing.{onward_ends, same_step_faults, step_dials, step_insides, step_link_faults, step_unprompted, tells_no_step}
+use Rattle.request_machine.proofs.Losing.{lost_goes, lost_nearer, tells_lost}
 use Rattle.request_machine.proofs.machine.Machine.turn.Goals as goal
 
 pub returns-in-Ask-clause-dials : goal.returns-in-Ask-clause-dials
@@ -325,3 +326,42 @@ returns-in-Continue-clause-prompt_faults g c = tells_ask_still g.P.Prompter.stic
 
 pub returns-in-Continue-clause-prompt_quiet : goal.returns-in-Continue-clause-prompt_quiet
 returns-in-Continue-clause-prompt_quiet g c = λ quiet. (quiet, unprompted_faults c.args.self.now c.go_on.new.self (step_unprompted c.args.self.now c.go_on.new.self c.go_on.ensures.past c.go_on.ensures.kept))
+
+pub lose-requires-clause-room : goal.lose-requires-clause-room
+lose-requires-clause-room g c = tied_past c.args.request.now c.args.self.now c.requires.tied
+
+pub returns-in-LoseLink-clause-driven : goal.returns-in-LoseLink-clause-driven
+returns-in-LoseLink-clause-driven g c = driven_same c.args.self.now c.lose.new.self _ _ c.lose.ensures.kept (lost_goes c.args.self.now c.lose.new.self c.in-LoseLink.link (sym (ap (λ (v : Kept). v.stage) c.self.view_is) ∙ c.in-LoseLink.is) c.lose.ensures.away) c.requires.linked c.requires.links c.requires.told
+
+pub returns-in-LoseLink-clause-traffic : goal.returns-in-LoseLink-clause-traffic
+returns-in-LoseLink-clause-traffic g c = tells_lost c.args.request.now c.args.self.now c.lose.new.self c.in-LoseLink.link _ _ (sym (ap (λ (v : Kept). v.stage) c.self.view_is) ∙ c.in-LoseLink.is) c.lose.ensures.past c.lose.ensures.kept c.requires.linked
+
+pub returns-in-LoseLink-clause-faults : goal.returns-in-LoseLink-clause-faults
+returns-in-LoseLink-clause-faults g c = tells_link_still g.D.Dialer.sticks c.args.self.now c.lose.new.self _ _ (ap link_faults c.lose.ensures.past) refl
+
+pub returns-in-LoseLink-clause-quiet : goal.returns-in-LoseLink-clause-quiet
+returns-in-LoseLink-clause-quiet g c = λ quiet. (quiet, ap link_faults c.lose.ensures.past)
+
+pub returns-in-LoseLink-clause-prompts : goal.returns-in-LoseLink-clause-prompts
+returns-in-LoseLink-clause-prompts g c = prompts_unprompted c.args.request.now c.args.self.now c.lose.new.self _ _ _ (unprompted_event c.args.self.now c.lose.new.self (LinkLost c.in-LoseLink.link) c.lose.ensures.past refl c.lose.ensures.kept) refl
+
+pub returns-in-LoseLink-clause-prompt_faults : goal.returns-in-LoseLink-clause-prompt_faults
+returns-in-LoseLink-clause-prompt_faults g c = tells_ask_still g.P.Prompter.sticks c.args.self.now c.lose.new.self _ _ (unprompted_faults c.args.self.now c.lose.new.self (unprompted_event c.args.self.now c.lose.new.self (LinkLost c.in-LoseLink.link) c.lose.ensures.past refl c.lose.ensures.kept)) refl
+
+pub returns-in-LoseLink-clause-prompt_quiet : goal.returns-in-LoseLink-clause-prompt_quiet
+returns-in-LoseLink-clause-prompt_quiet g c = λ quiet. (quiet, unprompted_faults c.args.self.now c.lose.new.self (unprompted_event c.args.self.now c.lose.new.self (LinkLost c.in-LoseLink.link) c.lose.ensures.past refl c.lose.ensures.kept))
+
+pub returns-in-LoseLink-clause-provider : goal.returns-in-LoseLink-clause-provider
+returns-in-LoseLink-clause-provider g c = tells_no_step c.args.request.now g.T.Tokens.sticks c.args.self.now c.lose.new.self _ (ap steps c.lose.ensures.past) (goes_ends (way c.args.self.now.stage) (way c.lose.new.self.stage) (lost_goes c.args.self.now c.lose.new.self c.in-LoseLink.link (sym (ap (λ (v : Kept). v.stage) c.self.view_is) ∙ c.in-LoseLink.is) c.lose.ensures.away))
+
+pub returns-in-LoseLink-clause-steps_quiet : goal.returns-in-LoseLink-clause-steps_quiet
+returns-in-LoseLink-clause-steps_quiet g c = λ quiet. (quiet, same_step_faults c.args.self.now.past c.lose.new.self.past (ap steps c.lose.ensures.past))
+
+pub returns-in-LoseLink-clause-touched : goal.returns-in-LoseLink-clause-touched
+returns-in-LoseLink-clause-touched g c = inl (refl, ap steps c.lose.ensures.past)
+
+pub returns-in-LoseLink-clause-nearer : goal.returns-in-LoseLink-clause-nearer
+returns-in-LoseLink-clause-nearer g c = lost_nearer c.args.self.now c.lose.new.self c.in-LoseLink.link c.lose.ensures.past (tied_past c.args.request.now c.args.self.now c.requires.tied) (sym (ap (λ (v : Kept). v.stage) c.self.view_is) ∙ c.in-LoseLink.is)
+
+pub returns-in-LoseLink-clause-less : goal.returns-in-LoseLink-clause-less
+returns-in-LoseLink-clause-less g c = less_left c.args.self.now c.lose.new.self (pushed_less c.args.self.now c.lose.new.self _ c.lose.ensures.past (tied_past c.args.request.now c.args.self.now c.requires.tied))
