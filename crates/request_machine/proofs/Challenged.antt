@@ -19,10 +19,10 @@ use Rattle.trace_rule.specs.Closings.{carried_out, want, closings, note_for, not
 use Rattle.trace_rule.specs.Moves.Want.{Loses}
 use Rattle.trace_laws.proofs.LastLinks.{replies_on_last}
 use Rattle.trace_rule.specs.Moves.Move.{Closes}
-use Rattle.trace_rule.specs.Traces.{is_end, can_be, may_cut}
+use Rattle.trace_rule.specs.Traces.{is_end, can_be}
 use Rattle.request_machine.specs.declared.holding.Holding.{Holding}
 use Rattle.request_machine.specs.declared.stage.Stage.{Stage}
-use Rattle.request_machine.specs.declared.stage.Stage.TheVariants.{Reject as Rejecting, NameRenewal, Continue, LoseLink, Read, Choose, Close, Spent}
+use Rattle.request_machine.specs.declared.stage.Stage.TheVariants.{Reject as Rejecting, NameRenewal, Continue, LoseLink, Read, Choose, Close}
 use Rattle.request_machine.specs.Kept.{IsKept, Kept, Ties, IsHeld, held_kept, is_after_end, gift_by_path, note_call}
 use Rattle.request_machine.specs.Told.{unless_it}
 use Rattle.request_machine.proofs.Quiet.{IsNext, same_held}

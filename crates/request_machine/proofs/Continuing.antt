@@ -1,5 +1,5 @@
 -- Where a context goes on, and what the provider is asked for it.
-use Rattle.std.proofs.Common.{◌≡◌, inl, inr, ℕ, ◌≤◌, ◌<◌, Bool, true, false, List, [], ◌∷◌, ◌++◌, length, Option, Some, None, IfSome, IsSome, is_some, unwrap_or, option_map, refl, sym, ap, ◌∙◌, subst, if◌then◌else◌}
+use Rattle.std.proofs.Common.{◌≡◌, inl, inr, ℕ, ◌≤◌, ◌<◌, Bool, true, false, List, [], ◌∷◌, ◌++◌, length, Option, Some, None, IsSome, is_some, unwrap_or, option_map, refl, sym, ap, ◌∙◌, subst}
 use Rattle.std.specs.List.{list_any, cons_option}
 use Rattle.std.proofs.lemmas.Bool.{false≢true}
 use Rattle.spaces.specs.declared.roster.Request.{Request}
@@ -28,7 +28,7 @@ use Rattle.trace_rule.specs.Telling.{asks, call_told, answered_call, step_told}
 use Rattle.request_machine.specs.declared.holding.Context.{Context}
 use Rattle.request_machine.specs.declared.holding.Holding.{Holding}
 use Rattle.request_machine.specs.declared.stage.Stage.TheVariants.{Continue, Spent}
-use Rattle.request_machine.specs.Kept.{Kept, Ties, IsKept, IsStage, IsHeld, held_kept, context_kept, is_after_end}
+use Rattle.request_machine.specs.Kept.{Kept, Ties, IsKept, IsStage, IsHeld, held_kept, is_after_end}
 use Rattle.request_machine.specs.Changed.{holding, put_held}
 use Rattle.request_machine.specs.Told.{IsLive, ended_told, ended_on}
 use Rattle.request_machine.specs.Contexts.{IsBefore, IsBegun, seen_said}

@@ -1,5 +1,5 @@
 -- A bound link is lost, and its contexts with it.
-use Rattle.std.proofs.Common.{◌≡◌, ℕ, ◌+◌, ◌<◌, ◌==◌, ◌||◌, Bool, true, false, IsTrue, List, [], ◌∷◌, drop, length, Option, Some, None, is_some, option_map, refl, sym, ap, ◌∙◌, subst, zero-add, arith, if◌then◌else◌}
+use Rattle.std.proofs.Common.{◌≡◌, ℕ, ◌<◌, ◌==◌, ◌||◌, Bool, true, false, IsTrue, List, ◌∷◌, drop, length, Option, Some, None, is_some, option_map, refl, sym, ap, ◌∙◌, subst, zero-add, arith, if◌then◌else◌}
 use Rattle.std.proofs.lemmas.Bool.{false≢true}
 use Rattle.std.specs.List.{list_any}
 use Rattle.spaces.specs.declared.Method.{Method}
@@ -14,7 +14,7 @@ use Rattle.auth_runs.specs.declared.event.Event.TheVariants.{Headed, LinkLost}
 use Rattle.auth_runs.specs.declared.event.Outcome.TheVariants.{Refused}
 use Rattle.auth_runs.specs.declared.event.Why.TheVariants.{BoundLost}
 use Rattle.trace_rule.specs.Settings.{Setting}
-use Rattle.trace_rule.specs.Holding.{held, held_lost, code}
+use Rattle.trace_rule.specs.Holding.{held_lost, code}
 use Rattle.trace_rule.specs.Heard.{Hears, IsHeard}
 use Rattle.trace_rule.specs.Moves.{go, rounds}
 use Rattle.trace_rule.specs.Moves.Want.{Loses}
@@ -33,7 +33,7 @@ use Rattle.request_machine.specs.Carried.{TellsTraffic, IsUntouched, is_heard_on
 use Rattle.request_machine.specs.Linked.{Line, Way, line, way, is_away, goes_on, is_ending, IsLinked, IsLinkedOn}
 use Rattle.request_machine.specs.Linked.Way.{Onward, Ending, Asking, Reading}
 use Rattle.request_machine.specs.Needs.{need_at}
-use Rattle.request_machine.specs.Turns.{is_asking, turns_left}
+use Rattle.request_machine.specs.Turns.{turns_left}
 use Rattle.request_machine.proofs.Carrying.{never_short, recorded_so, sent_as}
 use Rattle.request_machine.proofs.Driving.{pushed_nearer}
 use Rattle.request_machine.proofs.Prompting.{refused_left}

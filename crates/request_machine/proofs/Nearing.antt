@@ -1,5 +1,5 @@
 -- How turns bring a request nearer to what it asks for, on its way to a head.
-use Rattle.std.proofs.Common.{◌≡◌, ℕ, ◌+◌, ◌-◌, ◌*◌, ◌<◌, nat_le, Bool, true, false, List, ◌∷◌, length, None, is_some, refl, ap, ◌∙◌, arith, if◌then◌else◌}
+use Rattle.std.proofs.Common.{◌≡◌, ℕ, ◌+◌, ◌-◌, ◌*◌, ◌<◌, nat_le, Bool, true, false, ◌∷◌, length, None, is_some, refl, ap, ◌∙◌, arith, if◌then◌else◌}
 use Rattle.spaces.specs.declared.site.Target.{Target}
 use Rattle.auth_events.specs.declared.journal.Gift.{Gift}
 use Rattle.auth_runs.specs.declared.event.Event.{Event}

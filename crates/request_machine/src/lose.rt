@@ -1,4 +1,4 @@
-//! A bound link that did not stay (RFC 4559 section 6): its contexts are lost, and a new link makes
+//! A bound link that did not stay (RFC 4559): its contexts are lost, and a new link makes
 //! up for the first one of a request.
 
 ghost use Rattle.std.specs.Prelude.{◌≡◌, option_map, IsTrue, false};

@@ -1,8 +1,6 @@
-use Rattle.std.proofs.Common.{◌≡◌, IsTrue, Some, false, ◌∷◌, ◌+◌, sym, subst, ap, ◌∙◌}
+use Rattle.std.proofs.Common.{Some, ◌∷◌, ◌+◌, sym, subst, ap, ◌∙◌}
 use Rattle.auth_runs.specs.declared.event.Event.TheVariants.{Replied}
-use Rattle.trace_rule.specs.Holding.Decision.{Negotiating}
 use Rattle.request_machine.specs.declared.decide.Decision.TheVariants.{Continues}
-use Rattle.request_machine.specs.Contexts.{stage_continued}
 use Rattle.request_machine.specs.Kept.{Kept, Ties}
 use Rattle.request_machine.proofs.Reading.{few_rounds}
 use Rattle.request_machine.proofs.Decided.{IsDecided, continues_ties}

@@ -10,7 +10,6 @@ use Rattle.request_machine.proofs.Answering.{unprompted_dialed, unprompted_event
 use Rattle.request_machine.proofs.Carrying.{tells_dialed, tells_dial_failed, tells_same}
 use Rattle.request_machine.proofs.Failing.{tells_link_same}
 use Rattle.request_machine.proofs.Dialing.{one_dial}
-use Rattle.request_machine.specs.Linked.{Line}
 use Rattle.request_machine.proofs.Nearing.{go_nearer, gone_nearer}
 use Rattle.request_machine.proofs.Driving.{driven_given, driven_undialed}
 use Rattle.request_machine.proofs.machine.Machine.dial.Goals as goal

@@ -1,7 +1,5 @@
-use Rattle.std.proofs.Common.{◌≡◌, true, ◌∷◌, option_map, sym, subst, ap, ◌∙◌}
+use Rattle.std.proofs.Common.{true, ◌∷◌, option_map, sym, subst, ap, ◌∙◌}
 use Rattle.auth_runs.specs.declared.event.Event.TheVariants.{LinkLost}
-use Rattle.auth_runs.specs.declared.event.Why.TheVariants.{BoundLost}
-use Rattle.request_machine.specs.Asking.{refused_by}
 use Rattle.request_machine.specs.Contexts.{stage_lost}
 use Rattle.request_machine.specs.Kept.{Kept, Ties}
 use Rattle.request_machine.specs.Told.{lost_told}
