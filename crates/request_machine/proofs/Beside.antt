@@ -62,6 +62,7 @@ beside_ties s m link space t = record {
   code = t.code;
   rounds = t.rounds;
   is_dialed = t.is_dialed;
+  stays = t.stays;
   has_lost = t.has_lost;
   has_none = t.has_none;
   ended = t.ended;

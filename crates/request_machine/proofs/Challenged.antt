@@ -17,7 +17,6 @@ use Rattle.trace_rule.specs.Holding.{Held, Decision, held, held_replied, carried
 use Rattle.trace_rule.specs.Moves.{rejects, Move, move, replied, weighed, decided, select, rounds}
 use Rattle.trace_rule.specs.Closings.{carried_out, want, closings, note_for, note_of, is_challenged}
 use Rattle.trace_rule.specs.Moves.Want.{Loses}
-use Rattle.trace_laws.proofs.LastLinks.{replies_on_last}
 use Rattle.trace_rule.specs.Moves.Move.{Closes}
 use Rattle.trace_rule.specs.Traces.{is_end, can_be}
 use Rattle.request_machine.specs.declared.holding.Holding.{Holding}
@@ -28,7 +27,7 @@ use Rattle.request_machine.specs.Told.{unless_it}
 use Rattle.request_machine.proofs.Quiet.{IsNext, same_held}
 use Rattle.request_machine.proofs.Prompts.{open_behind}
 use Rattle.request_machine.proofs.Sending.{only_end}
-use Rattle.request_machine.proofs.Ending.{reads_past, still_held, joined}
+use Rattle.request_machine.proofs.Ending.{reads_past, reply_stays, still_held, joined}
 
 -- one round more
 one_round : (s : Setting) (m : Kept) (link : ℕ) (reply : Reply) (t : Target) → challenged s reply ≡ Some t → Ties s m → rounds s (Replied link reply ∷ m.past) ≡ m.rounds + 1
@@ -37,11 +36,11 @@ one_round s m link reply t is ties =
     ap (λ (c : Option Target). (if is_some c then 1 else 0) + rounds s m.past) is ∙ e
 
 -- a challenge was read; what is held then, and where the request stands, is given
-pub challenge_ties : (s : Setting) (m : Kept) (link : ℕ) (reply : Reply) (t : Target) (stage : Stage) (proxy server : Option Holding) → m.stage ≡ Read link → challenged s reply ≡ Some t → Ties s m
-    → IsKept s (record m { past = Replied link reply ∷ m.past; stage = stage; proxy = proxy; server = server; rounds = m.rounds + 1; code = reply.code }) stage
+pub challenge_ties : (s : Setting) (m : Kept) (link : ℕ) (reply : Reply) (t : Target) (stage : Stage) (proxy server : Option Holding) → link ≡ m.links → m.stage ≡ Read link → challenged s reply ≡ Some t → Ties s m
+    → IsKept s (record m { past = Replied link reply ∷ m.past; stage = stage; proxy = proxy; server = server; rounds = m.rounds + 1; code = reply.code; stays = reply.stays }) stage
     → IsHeld s (Replied link reply ∷ m.past) Proxy proxy → IsHeld s (Replied link reply ∷ m.past) Server server → IsNext s (Replied link reply ∷ m.past) stage
-    → Ties s (record m { past = Replied link reply ∷ m.past; stage = stage; proxy = proxy; server = server; rounds = m.rounds + 1; code = reply.code })
-challenge_ties s m link reply x stage proxy server same is t kept held_proxy held_server next = record {
+    → Ties s (record m { past = Replied link reply ∷ m.past; stage = stage; proxy = proxy; server = server; rounds = m.rounds + 1; code = reply.code; stays = reply.stays })
+challenge_ties s m link reply x stage proxy server last same is t kept held_proxy held_server next = record {
   same_number = t.same_number;
   same_seed = t.same_seed;
   passes_over = t.passes_over;
@@ -58,6 +57,7 @@ challenge_ties s m link reply x stage proxy server same is t kept held_proxy hel
   code = refl;
   rounds = one_round s m link reply x is t;
   is_dialed = t.is_dialed;
+  stays = reply_stays m link reply last;
   has_lost = t.has_lost;
   has_none = t.has_none;
   ended = next.ended;
@@ -180,10 +180,6 @@ to_lose s m link reply same may wanted t =
       may_stop = rw no_end refl;
       open_still = only_end s m (Read link) same t (λ n e. e);
     }
-
--- it is the one that was dialed last
-pub reply_last : (s : Setting) (m : Kept) (link : ℕ) (reply : Reply) → m.stage ≡ Read link → IsTrue (can_be reply) → Ties s m → link ≡ m.links
-reply_last s m link reply same may t = replies_on_last s m.past link reply (reads_past s m link (Replied link reply) same t (refl, may)) ∙ t.links
 
 -- the seventeenth round ends the request, and notes what was carried for the other target
 pub notes_by : (s : Setting) (whole : List Event) (x : Target) (c : Option Held) (b : Bool) → is_challenged s whole x ≡ b → unwrap_or (option_map (note_of s whole x) c) [] ≡ note_call (if b then None else option_and_then (gift_by_path s) c) []

@@ -49,6 +49,7 @@ staged s m stage t stands ended stops open_still kept = record {
   code = t.code;
   rounds = t.rounds;
   is_dialed = t.is_dialed;
+  stays = t.stays;
   has_lost = t.has_lost;
   has_none = t.has_none;
   ended = t.ended ∙ ended;

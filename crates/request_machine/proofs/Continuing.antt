@@ -79,6 +79,7 @@ asked_held s m proxy server same held_proxy held_server t = record {
   code = t.code;
   rounds = t.rounds;
   is_dialed = t.is_dialed;
+  stays = t.stays;
   has_lost = t.has_lost;
   has_none = t.has_none;
   ended = t.ended;

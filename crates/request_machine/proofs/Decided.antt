@@ -28,7 +28,8 @@ use Rattle.request_machine.specs.Chosen.{stale_terms}
 use Rattle.request_machine.specs.Changed.{holding}
 use Rattle.request_machine.specs.Contexts.{stage_continued}
 use Rattle.request_machine.specs.Told.{IsLive, held_rejected, held_last, is_live, unless_it}
-use Rattle.request_machine.proofs.Challenged.{challenge_ties, challenges_it, held_elsewhere, held_challenged, kept_decided, nothing_held, to_choose, to_continue, to_reject, to_renew, to_lose, to_rounds, moves_decided, reply_last}
+use Rattle.request_machine.proofs.Challenged.{challenge_ties, challenges_it, held_elsewhere, held_challenged, kept_decided, nothing_held, to_choose, to_continue, to_reject, to_renew, to_lose, to_rounds, moves_decided}
+use Rattle.request_machine.proofs.Ending.{reply_last}
 use Rattle.request_machine.proofs.Quiet.{IsNext}
 use Rattle.request_machine.proofs.Reading.{read_peer, read_unnamed}
 
@@ -68,13 +69,13 @@ undecided_held s past link reply t (Some h) met undecided is = held_challenged s
 
 -- nothing decides: what was held is dropped, and a challenge is chosen
 pub undecided_ties : (s : Setting) (m : Kept) (link : ℕ) (reply : Reply) (t : Target) → m.stage ≡ Read link → IsTrue (can_be reply) → nat_le 17 (m.rounds + 1) ≡ false → IsUndecided s m reply t → Ties s m
-    → Ties s (record m { past = Replied link reply ∷ m.past; stage = Choose t; proxy = held_rejected t Proxy m.proxy; server = held_rejected t Server m.server; rounds = m.rounds + 1; code = reply.code })
+    → Ties s (record m { past = Replied link reply ∷ m.past; stage = Choose t; proxy = held_rejected t Proxy m.proxy; server = held_rejected t Server m.server; rounds = m.rounds + 1; code = reply.code; stays = reply.stays })
 undecided_ties s m link reply Proxy same may few is t =
-    challenge_ties s m link reply Proxy (Choose Proxy) None m.server same is.target t tt
+    challenge_ties s m link reply Proxy (Choose Proxy) None m.server (reply_last s m link reply same may t) same is.target t tt
     (undecided_held s m.past link reply Proxy m.proxy (challenges_it s reply Proxy Proxy is.target) is.undecided t.proxy) (held_elsewhere s m.past link reply Proxy Server m.server is.target refl t.server)
     (to_choose s m link reply Proxy m.proxy same is.target may t.proxy is.undecided few t)
 undecided_ties s m link reply Server same may few is t =
-    challenge_ties s m link reply Server (Choose Server) m.proxy None same is.target t tt
+    challenge_ties s m link reply Server (Choose Server) m.proxy None (reply_last s m link reply same may t) same is.target t tt
     (held_elsewhere s m.past link reply Server Proxy m.proxy is.target refl t.proxy) (undecided_held s m.past link reply Server m.server (challenges_it s reply Server Server is.target) is.undecided t.server)
     (to_choose s m link reply Server m.server same is.target may t.server is.undecided few t)
 undecided_ties s m link reply Socks same may few is t = absurd (no_socks s reply is.target)
@@ -85,17 +86,17 @@ decided_held s past link reply t o h decision met same decides is =
     subst (λ x. IsHeld s (Replied link reply ∷ past) t x) (sym same) (held_challenged s past link reply t h (Some decision) met decides (subst (λ x. IsHeld s past t x) same is))
 
 -- what is held stays, and the stage behind it is given
-decided_ties : (s : Setting) (m : Kept) (link : ℕ) (reply : Reply) (t : Target) (h : Holding) (decision : Decision) (stage : Stage) → m.stage ≡ Read link → IsDecided s m reply t h decision
-    → IsKept s (record m { past = Replied link reply ∷ m.past; stage = stage; rounds = m.rounds + 1; code = reply.code }) stage
+decided_ties : (s : Setting) (m : Kept) (link : ℕ) (reply : Reply) (t : Target) (h : Holding) (decision : Decision) (stage : Stage) → m.stage ≡ Read link → IsTrue (can_be reply) → IsDecided s m reply t h decision
+    → IsKept s (record m { past = Replied link reply ∷ m.past; stage = stage; rounds = m.rounds + 1; code = reply.code; stays = reply.stays }) stage
     → IsNext s (Replied link reply ∷ m.past) stage → Ties s m
-    → Ties s (record m { past = Replied link reply ∷ m.past; stage = stage; rounds = m.rounds + 1; code = reply.code })
-decided_ties s m link reply Proxy h decision stage same is kept next t =
-    challenge_ties s m link reply Proxy stage m.proxy m.server same is.target t kept
+    → Ties s (record m { past = Replied link reply ∷ m.past; stage = stage; rounds = m.rounds + 1; code = reply.code; stays = reply.stays })
+decided_ties s m link reply Proxy h decision stage same may is kept next t =
+    challenge_ties s m link reply Proxy stage m.proxy m.server (reply_last s m link reply same may t) same is.target t kept
     (decided_held s m.past link reply Proxy m.proxy h decision (challenges_it s reply Proxy Proxy is.target) is.held is.decides t.proxy) (held_elsewhere s m.past link reply Proxy Server m.server is.target refl t.server) next
-decided_ties s m link reply Server h decision stage same is kept next t =
-    challenge_ties s m link reply Server stage m.proxy m.server same is.target t kept
+decided_ties s m link reply Server h decision stage same may is kept next t =
+    challenge_ties s m link reply Server stage m.proxy m.server (reply_last s m link reply same may t) same is.target t kept
     (held_elsewhere s m.past link reply Server Proxy m.proxy is.target refl t.proxy) (decided_held s m.past link reply Server m.server h decision (challenges_it s reply Server Server is.target) is.held is.decides t.server) next
-decided_ties s m link reply Socks h decision stage same is kept next t = absurd (no_socks s reply is.target)
+decided_ties s m link reply Socks h decision stage same may is kept next t = absurd (no_socks s reply is.target)
 
 held_at : (s : Setting) (m : Kept) (reply : Reply) (t : Target) (h : Holding) (decision : Decision) → IsDecided s m reply t h decision → Ties s m → IsHeld s m.past t (Some h)
 held_at s m reply Proxy h decision is t = subst (λ x. IsHeld s m.past Proxy x) is.held t.proxy
@@ -104,15 +105,15 @@ held_at s m reply Socks h decision is t = absurd (no_socks s reply is.target)
 
 pub rejects_ties : (s : Setting) (m : Kept) (link : ℕ) (reply : Reply) (t : Target) (h : Holding) (decision : Decision) → m.stage ≡ Read link → IsTrue (can_be reply) → nat_le 17 (m.rounds + 1) ≡ false
     → IsDecided s m reply t h decision → IsRejection s t h decision → Ties s m
-    → Ties s (record m { past = Replied link reply ∷ m.past; stage = Rejecting t h.gift; rounds = m.rounds + 1; code = reply.code })
+    → Ties s (record m { past = Replied link reply ∷ m.past; stage = Rejecting t h.gift; rounds = m.rounds + 1; code = reply.code; stays = reply.stays })
 rejects_ties s m link reply x h decision same may few is fresh t =
-    decided_ties s m link reply x h decision (Rejecting x h.gift) same is tt
+    decided_ties s m link reply x h decision (Rejecting x h.gift) same may is tt
     (to_reject s m link reply x h decision same is.target may (held_at s m reply x h decision is t) is.decides (fresh.rejects (Replied link reply ∷ m.past) link reply.stays) few t) t
 
 -- the context goes on, where the link stays
 pub continues_ties : (s : Setting) (m : Kept) (link : ℕ) (reply : Reply) (t : Target) (h : Holding) (peer : List ℕ) → m.stage ≡ Read link → IsTrue (can_be reply) → nat_le 17 (m.rounds + 1) ≡ false
     → IsDecided s m reply t h (Negotiating (Some peer)) → is_live h.context ≡ true → m.is_dialed ≡ false → Ties s m
-    → Ties s (record m { past = Replied link reply ∷ m.past; stage = stage_continued reply.stays link t; rounds = m.rounds + 1; code = reply.code; peer = Some peer })
+    → Ties s (record m { past = Replied link reply ∷ m.past; stage = stage_continued reply.stays link t; rounds = m.rounds + 1; code = reply.code; stays = reply.stays; peer = Some peer })
 continues_ties s m link reply x h peer same may few is live undialed t = at reply.stays refl
   where
     before : Kept
@@ -123,7 +124,7 @@ continues_ties s m link reply x h peer same may few is live undialed t = at repl
     same_holding Server = refl
     same_holding Socks = refl
 
-    live_behind : (y : Target) (stage : Stage) → holding m y ≡ Some h → IsLive (holding (record before { past = Replied link reply ∷ m.past; stage = stage; rounds = m.rounds + 1; code = reply.code }) y)
+    live_behind : (y : Target) (stage : Stage) → holding m y ≡ Some h → IsLive (holding (record before { past = Replied link reply ∷ m.past; stage = stage; rounds = m.rounds + 1; code = reply.code; stays = reply.stays }) y)
     live_behind Proxy stage held = subst (λ o. IsLive o) (sym held) live
     live_behind Server stage held = subst (λ o. IsLive o) (sym held) live
     live_behind Socks stage held = absurd (cc)
@@ -136,14 +137,14 @@ continues_ties s m link reply x h peer same may few is live undialed t = at repl
         moves_decided s m link reply x h (Negotiating (Some peer)) is.target (held_at s m reply x h (Negotiating (Some peer)) is t) is.decides few t
         ∙ ap (λ b. if b then Goes (Steps x (GoOn peer)) else Goes (Loses link)) stays
 
-    at : (b : Bool) → reply.stays ≡ b → Ties s (record before { past = Replied link reply ∷ m.past; stage = stage_continued b link x; rounds = m.rounds + 1; code = reply.code })
+    at : (b : Bool) → reply.stays ≡ b → Ties s (record before { past = Replied link reply ∷ m.past; stage = stage_continued b link x; rounds = m.rounds + 1; code = reply.code; stays = reply.stays })
     at true stays =
         let moves : move s (Replied link reply ∷ m.past) ≡ Goes (Steps x (GoOn peer)) = moves_by true stays in
-        decided_ties s before link reply x h (Negotiating (Some peer)) (Continue x) same decided_so
+        decided_ties s before link reply x h (Negotiating (Some peer)) (Continue x) same may decided_so
         (record { token = peer; is_kept = refl; wanted = ap (carried_out s (Replied link reply ∷ m.past)) moves }, live_behind x (Continue x) is.held)
         (to_continue s m link reply x same may t) (read_peer s m link (Some peer) same t)
     at false stays =
-        decided_ties s before link reply x h (Negotiating (Some peer)) (LoseLink link) same decided_so (reply_last s m link reply same may t, undialed)
+        decided_ties s before link reply x h (Negotiating (Some peer)) (LoseLink link) same may decided_so (reply_last s m link reply same may t, undialed)
         (to_lose s m link reply same may (ap (carried_out s (Replied link reply ∷ m.past)) (moves_by false stays)) t) (read_peer s m link (Some peer) same t)
 
 -- the seventeenth round
@@ -167,14 +168,15 @@ pub last_ties : (s : Setting) (m : Kept) (link : ℕ) (reply : Reply) (t : Targe
       server = held_last kept t Server m.server;
       rounds = m.rounds + 1;
       code = reply.code;
+      stays = reply.stays;
       stage = Close (record { outcome = Refused reply.code Rounds; proxy = unless_it t Proxy m.noted_proxy; server = unless_it t Server m.noted_server });
     })
 last_ties s m link reply Proxy kept same may last is t =
-    challenge_ties s m link reply Proxy (Close (record { outcome = Refused reply.code Rounds; proxy = None; server = m.noted_server })) (if kept then m.proxy else None) m.server same is.target t tt
+    challenge_ties s m link reply Proxy (Close (record { outcome = Refused reply.code Rounds; proxy = None; server = m.noted_server })) (if kept then m.proxy else None) m.server (reply_last s m link reply same may t) same is.target t tt
     (last_held s m.past link reply Proxy m.proxy kept (challenges_it s reply Proxy Proxy is.target) is.decides t.proxy) (held_elsewhere s m.past link reply Proxy Server m.server is.target refl t.server)
     (to_rounds s m link reply Proxy m.proxy same is.target may t.proxy last t)
 last_ties s m link reply Server kept same may last is t =
-    challenge_ties s m link reply Server (Close (record { outcome = Refused reply.code Rounds; proxy = m.noted_proxy; server = None })) m.proxy (if kept then m.server else None) same is.target t tt
+    challenge_ties s m link reply Server (Close (record { outcome = Refused reply.code Rounds; proxy = m.noted_proxy; server = None })) m.proxy (if kept then m.server else None) (reply_last s m link reply same may t) same is.target t tt
     (held_elsewhere s m.past link reply Server Proxy m.proxy is.target refl t.proxy) (last_held s m.past link reply Server m.server kept (challenges_it s reply Server Server is.target) is.decides t.server)
     (to_rounds s m link reply Server m.server same is.target may t.server last t)
 last_ties s m link reply Socks kept same may last is t = absurd (no_socks s reply is.target)
@@ -190,11 +192,11 @@ renews s h offered terms = at offered.stale offered.terms
 -- a stale challenge: its terms are to be named, for the gift that is held
 pub stale_ties : (s : Setting) (m : Kept) (link : ℕ) (reply : Reply) (t : Target) (h : Holding) (offered : Offer) (terms : Terms) → m.stage ≡ Read link → IsTrue (can_be reply) → nat_le 17 (m.rounds + 1) ≡ false
     → IsDecided s m reply t h (Offering offered) → stale_terms offered ≡ Some terms → Ties s m
-    → Ties s (record m { past = Replied link reply ∷ m.past; stage = NameRenewal t h.gift; rounds = m.rounds + 1; code = reply.code; unnamed_terms = Some terms })
+    → Ties s (record m { past = Replied link reply ∷ m.past; stage = NameRenewal t h.gift; rounds = m.rounds + 1; code = reply.code; stays = reply.stays; unnamed_terms = Some terms })
 stale_ties s m link reply x h offered terms same may few is stale t =
     let held_x = held_at s m reply x h (Offering offered) is t in
     let before : Kept = record m { unnamed_terms = Some terms } in
-    decided_ties s before link reply x h (Offering offered) (NameRenewal x h.gift) same (record { target = is.target; held = same_holding x ∙ is.held; decides = is.decides })
+    decided_ties s before link reply x h (Offering offered) (NameRenewal x h.gift) same may (record { target = is.target; held = same_holding x ∙ is.held; decides = is.decides })
     (record {
       terms = terms;
       are_unnamed = refl;

@@ -1,5 +1,5 @@
 -- How a request closes.
-use Rattle.std.proofs.Common.{◌≡◌, ℕ, ◌+◌, Bool, true, false, not, ◌&&◌, List, [], ◌∷◌, ◌++◌, Option, Some, None, refl, sym, ap, ◌∙◌, zero-add, if◌then◌else◌, IsTrue, subst, option_map, option_and_then, unwrap_or, is_some, is_none, drop, map, nat_le, arith, zero, suc}
+use Rattle.std.proofs.Common.{◌≡◌, ℕ, ◌+◌, ◌==◌, Bool, true, false, not, ◌&&◌, List, [], ◌∷◌, ◌++◌, Option, Some, None, refl, sym, ap, ◌∙◌, zero-add, if◌then◌else◌, IsTrue, subst, option_map, option_and_then, unwrap_or, is_some, is_none, drop, map, nat_le, arith, zero, suc}
 use Rattle.std.proofs.Math.Numerals.{add-one}
 use Rattle.std.specs.List.{list_any}
 use Rattle.spaces.specs.declared.site.Target.{Target}
@@ -18,7 +18,7 @@ use Rattle.auth_runs.specs.declared.event.Outcome.{Outcome}
 use Rattle.auth_runs.specs.declared.event.Outcome.TheVariants.{Answered, Refused, BadReply, LinkFailed, ProviderFailed, PromptFailed, NoMemory}
 use Rattle.trace_rule.specs.Settings.{Setting, is_by_path}
 use Rattle.trace_rule.specs.Challenges.{challenged, challenges_target}
-use Rattle.trace_rule.specs.Holding.{Held, held, held_replied, carried}
+use Rattle.trace_rule.specs.Holding.{Held, held, held_replied, carried, stays}
 use Rattle.trace_rule.specs.Moves.{move, replied, rounds, is_answered}
 use Rattle.trace_rule.specs.Closings.{renewal_for, notes, want, carried_out, closings, closings_made, next_closing, note_for, note_of, is_challenged}
 use Rattle.trace_rule.specs.Moves.Want.{Calls, Reads}
@@ -33,6 +33,7 @@ use Rattle.request_machine.specs.Told.{closing_by}
 use Rattle.request_machine.proofs.Quiet.{IsNext, quiet_ties, same_held, note_still, end_still, outcome_still, write_failed_still, read_failed_still, broken_still}
 use Rattle.request_machine.proofs.Prompts.{open_behind}
 use Rattle.request_machine.proofs.Replies.{no_follow}
+use Rattle.trace_laws.proofs.LastLinks.{replies_on_last}
 use Rattle.request_machine.proofs.Sending.{only_end}
 
 -- FAULTS BEHIND A HEAD
@@ -41,6 +42,15 @@ pub reads_past : (s : Setting) (m : Kept) (link : ℕ) (event : Event) → m.sta
 reads_past s m link event same t follows =
     let at : IsStage s m.past (Read link) = subst (IsStage s m.past) same t.stage in
     (at.0, subst (λ v. Follows s m.past v event) (sym at.1) follows)
+
+-- it is the one that was dialed last
+pub reply_last : (s : Setting) (m : Kept) (link : ℕ) (reply : Reply) → m.stage ≡ Read link → IsTrue (can_be reply) → Ties s m → link ≡ m.links
+reply_last s m link reply same may t = replies_on_last s m.past link reply (reads_past s m link (Replied link reply) same t (refl, may)) ∙ t.links
+
+pub reply_stays : (m : Kept) (link : ℕ) (reply : Reply) → link ≡ m.links → stays (Replied link reply ∷ m.past) m.links ≡ reply.stays
+reply_stays m link reply last =
+    let it : (link == m.links) ≡ true = grind (arith, last) in
+    ap (λ b. if b then reply.stays else stays m.past m.links) it
 
 pub write_failed_ties : (s : Setting) (m : Kept) (link count : ℕ) → m.stage ≡ Read link → Ties s m
     → Ties s (record m { past = WriteFailed link count ∷ m.past; stage = Close (closing_by (LinkFailed count)) })
@@ -129,9 +139,9 @@ left_by s m link reply few same none counted t =
     ∙ ap (λ calls. (if few then renewed else []) ++ map Some calls) (noted_by s m link reply none t)
 
 -- the reply is an answer, and the request stands so behind it
-answered_as : (s : Setting) (m : Kept) (link : ℕ) (reply : Reply) (stage : Stage) → challenged s reply ≡ None → Ties s m → IsKept s (record m { past = Replied link reply ∷ m.past; code = reply.code; stage = stage }) stage
-    → IsNext s (Replied link reply ∷ m.past) stage → Ties s (record m { past = Replied link reply ∷ m.past; code = reply.code; stage = stage })
-answered_as s m link reply stage none t kept next = record {
+answered_as : (s : Setting) (m : Kept) (link : ℕ) (reply : Reply) (stage : Stage) → link ≡ m.links → challenged s reply ≡ None → Ties s m → IsKept s (record m { past = Replied link reply ∷ m.past; code = reply.code; stage = stage; stays = reply.stays }) stage
+    → IsNext s (Replied link reply ∷ m.past) stage → Ties s (record m { past = Replied link reply ∷ m.past; code = reply.code; stage = stage; stays = reply.stays })
+answered_as s m link reply stage last none t kept next = record {
   same_number = t.same_number;
   same_seed = t.same_seed;
   passes_over = t.passes_over;
@@ -148,6 +158,7 @@ answered_as s m link reply stage none t kept next = record {
   code = refl;
   rounds = no_round s m link reply none t;
   is_dialed = t.is_dialed;
+  stays = reply_stays m link reply last;
   has_lost = t.has_lost;
   has_none = t.has_none;
   ended = next.ended;
@@ -159,7 +170,7 @@ answered_as s m link reply stage none t kept next = record {
 
 -- the next nonces are looked for, unless there were too many rounds
 pub answered_ties : (s : Setting) (m : Kept) (link : ℕ) (reply : Reply) → m.stage ≡ Read link → challenged s reply ≡ None → IsTrue (can_be reply) → Ties s m
-    → Ties s (record m { past = Replied link reply ∷ m.past; code = reply.code; stage = stage_answered m.rounds (record { outcome = Answered reply.code; proxy = m.noted_proxy; server = m.noted_server }) })
+    → Ties s (record m { past = Replied link reply ∷ m.past; code = reply.code; stays = reply.stays; stage = stage_answered m.rounds (record { outcome = Answered reply.code; proxy = m.noted_proxy; server = m.noted_server }) })
 answered_ties s m link reply same none may t = go (nat_le m.rounds 14) refl
   where
     no_end : list_any is_end m.past ≡ false
@@ -181,17 +192,18 @@ answered_ties s m link reply same none may t = go (nat_le m.rounds 14) refl
         → Ties s (record m {
           past = Replied link reply ∷ m.past;
           code = reply.code;
+          stays = reply.stays;
           stage = (if few then NextNonce Proxy (record { outcome = Answered reply.code; proxy = m.noted_proxy; server = m.noted_server }) else Close (record { outcome = Answered reply.code; proxy = m.noted_proxy; server = m.noted_server }));
         })
     go true counted =
-        answered_as s m link reply (NextNonce Proxy (record { outcome = Answered reply.code; proxy = m.noted_proxy; server = m.noted_server })) none t (subst (IsKept s m) same t.kept) (record {
+        answered_as s m link reply (NextNonce Proxy (record { outcome = Answered reply.code; proxy = m.noted_proxy; server = m.noted_server })) (reply_last s m link reply same may t) none t (subst (IsKept s m) same t.kept) (record {
           stands = (record { is_past = past; closes = moved; answered = answers s m.past link reply none }, left_by s m link reply true same none counted t, (still Proxy, still Server));
           ended = no_end;
           may_stop = rw no_end refl;
           open_still = tt;
         })
     go false counted =
-        answered_as s m link reply (Close (record { outcome = Answered reply.code; proxy = m.noted_proxy; server = m.noted_server })) none t tt (record {
+        answered_as s m link reply (Close (record { outcome = Answered reply.code; proxy = m.noted_proxy; server = m.noted_server })) (reply_last s m link reply same may t) none t tt (record {
           stands = (past, moved, left_by s m link reply false same none counted t);
           ended = no_end;
           may_stop = rw no_end refl;

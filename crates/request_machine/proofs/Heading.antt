@@ -163,6 +163,7 @@ headed_ties s m request bytes same dialed proxy server free undrawn_proxy undraw
       code = t.code;
       rounds = zero-add (rounds s m.past) ∙ t.rounds;
       is_dialed = refl;
+      stays = t.stays;
       has_lost = t.has_lost;
       has_none = t.has_none;
       ended = no_end;

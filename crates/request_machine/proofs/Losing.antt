@@ -71,6 +71,7 @@ lost_behind s m link stage kept next t = record {
   code = t.code;
   rounds = zero-add (rounds s m.past) ∙ t.rounds;
   is_dialed = t.is_dialed;
+  stays = t.stays;
   has_lost = refl;
   has_none = t.has_none;
   ended = next.ended;

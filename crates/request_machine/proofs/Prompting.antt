@@ -68,6 +68,7 @@ call_ties s m call reply stage proxy server p is_open t kept held_proxy held_ser
   code = t.code;
   rounds = zero-add (rounds s m.past) ∙ t.rounds;
   is_dialed = t.is_dialed;
+  stays = t.stays;
   has_lost = t.has_lost;
   has_none = t.has_none;
   ended = next.ended;

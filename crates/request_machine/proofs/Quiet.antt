@@ -9,7 +9,7 @@ use Rattle.auth_events.specs.declared.journal.Call.TheVariants.{Begin, Preempt, 
 use Rattle.auth_runs.specs.declared.event.Event.{Event}
 use Rattle.auth_runs.specs.declared.event.Event.TheVariants.{Called, DialFailed, WriteFailed, ReadFailed, Broken, Ended}
 use Rattle.trace_rule.specs.Settings.{Setting}
-use Rattle.trace_rule.specs.Holding.{held, links, heads, code, has_link, is_lost, is_no_mechanism}
+use Rattle.trace_rule.specs.Holding.{held, links, heads, code, has_link, is_lost, is_no_mechanism, stays}
 use Rattle.trace_rule.specs.Heads.{drawn}
 use Rattle.trace_rule.specs.Moves.{rounds}
 use Rattle.trace_rule.specs.Closings.{closings_made}
@@ -30,6 +30,7 @@ pub record IsStill (s : Setting) (past : List Event) (event : Event) : Type 0 wh
   pub code : code (event ∷ past) ≡ code past
   pub rounds : rounds s (event ∷ past) ≡ rounds s past
   pub is_dialed : has_link (event ∷ past) ≡ has_link past
+  pub stays : (link : ℕ) → stays (event ∷ past) link ≡ stays past link
   pub has_lost : list_any is_lost (event ∷ past) ≡ list_any is_lost past
   pub has_none : list_any is_no_mechanism (event ∷ past) ≡ list_any is_no_mechanism past
   pub prompt : prompt_open (event ∷ past) (event ∷ past) ≡ prompt_open past past
@@ -62,6 +63,7 @@ still_ties s m event stage proxy server q t kept held_proxy held_server next = r
   code = q.code ∙ t.code;
   rounds = q.rounds ∙ t.rounds;
   is_dialed = q.is_dialed ∙ t.is_dialed;
+  stays = q.stays m.links ∙ t.stays;
   has_lost = q.has_lost ∙ t.has_lost;
   has_none = q.has_none ∙ t.has_none;
   ended = next.ended;
@@ -89,6 +91,7 @@ begin_still s past reply = record {
   code = refl;
   rounds = zero-add (rounds s past);
   is_dialed = refl;
+  stays = λ link. refl;
   has_lost = refl;
   has_none = refl;
   prompt = open_behind past (Called Begin reply) (λ p. refl);
@@ -103,6 +106,7 @@ preempt_still s past target reply = record {
   code = refl;
   rounds = zero-add (rounds s past);
   is_dialed = refl;
+  stays = λ link. refl;
   has_lost = refl;
   has_none = refl;
   prompt = open_behind past (Called (Preempt target) reply) (λ p. refl);
@@ -117,6 +121,7 @@ note_still s past gift reply = record {
   code = refl;
   rounds = zero-add (rounds s past);
   is_dialed = refl;
+  stays = λ link. refl;
   has_lost = refl;
   has_none = refl;
   prompt = open_behind past (Called (Note gift) reply) (λ p. refl);
@@ -131,6 +136,7 @@ end_still s past reply = record {
   code = refl;
   rounds = zero-add (rounds s past);
   is_dialed = refl;
+  stays = λ link. refl;
   has_lost = refl;
   has_none = refl;
   prompt = open_behind past (Called CallEnd reply) (λ p. refl);
@@ -145,6 +151,7 @@ dial_failed_still s past link count = record {
   code = refl;
   rounds = zero-add (rounds s past);
   is_dialed = refl;
+  stays = λ link. refl;
   has_lost = refl;
   has_none = refl;
   prompt = open_behind past (DialFailed link count) (λ p. refl);
@@ -159,6 +166,7 @@ write_failed_still s past link count = record {
   code = refl;
   rounds = zero-add (rounds s past);
   is_dialed = refl;
+  stays = λ link. refl;
   has_lost = refl;
   has_none = refl;
   prompt = open_behind past (WriteFailed link count) (λ p. refl);
@@ -173,6 +181,7 @@ read_failed_still s past link count = record {
   code = refl;
   rounds = zero-add (rounds s past);
   is_dialed = refl;
+  stays = λ link. refl;
   has_lost = refl;
   has_none = refl;
   prompt = open_behind past (ReadFailed link count) (λ p. refl);
@@ -187,6 +196,7 @@ broken_still s past link fault = record {
   code = refl;
   rounds = zero-add (rounds s past);
   is_dialed = refl;
+  stays = λ link. refl;
   has_lost = refl;
   has_none = refl;
   prompt = open_behind past (Broken link fault) (λ p. refl);
@@ -201,6 +211,7 @@ outcome_still s past outcome = record {
   code = refl;
   rounds = zero-add (rounds s past);
   is_dialed = refl;
+  stays = λ link. refl;
   has_lost = refl;
   has_none = refl;
   prompt = open_behind past (Ended outcome) (λ p. refl);

@@ -40,6 +40,7 @@ peered_ties s m space terms peer kept t = record {
   code = t.code;
   rounds = t.rounds;
   is_dialed = t.is_dialed;
+  stays = t.stays;
   has_lost = t.has_lost;
   has_none = t.has_none;
   ended = t.ended;

@@ -73,6 +73,7 @@ rejected_ties s m x gift reply same suited t =
       code = refl;
       rounds = zero-add (rounds s m.past);
       is_dialed = refl;
+      stays = λ link. refl;
       has_lost = refl;
       has_none = refl;
       prompt = open_behind m.past event (λ p. refl);

@@ -54,6 +54,7 @@ renew_still s past gift terms reply = record {
   code = refl;
   rounds = zero-add (rounds s past);
   is_dialed = refl;
+  stays = λ link. refl;
   has_lost = refl;
   has_none = refl;
   prompt = open_behind past (Called (Renew gift terms) reply) (λ p. refl);

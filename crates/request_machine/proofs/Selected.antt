@@ -53,6 +53,7 @@ chosen_ties s m x n k terms gift reply same by goes prompt spaced follow suited 
       code = refl;
       rounds = zero-add (rounds s m.past);
       is_dialed = refl;
+      stays = λ link. refl;
       has_lost = refl;
       has_none = refl;
       prompt = prompt ∙ open_behind m.past event (λ p. refl);

@@ -1,5 +1,5 @@
 -- Dials and heads, where all is told of what is held.
-use Rattle.std.proofs.Common.{◌≡◌, ℕ, ◌+◌, true, false, ◌||◌, List, [], ◌∷◌, Option, Some, None, refl, sym, ap, ◌∙◌, zero-add, if◌then◌else◌, IfSome, subst, option_map, option_and_then, drop}
+use Rattle.std.proofs.Common.{◌≡◌, ℕ, ◌+◌, true, false, ◌||◌, List, [], ◌∷◌, Option, Some, None, refl, sym, ap, ◌∙◌, zero-add, if◌then◌else◌, IfSome, arith, subst, option_map, option_and_then, drop}
 use Rattle.std.specs.List.{list_any}
 use Rattle.spaces.specs.declared.site.Target.{Target}
 use Rattle.spaces.specs.declared.site.Target.TheVariants.{Server, Proxy}
@@ -9,7 +9,7 @@ use Rattle.auth_runs.specs.declared.event.Event.TheVariants.{Dialed, DialFailed,
 use Rattle.auth_runs.specs.declared.event.Outcome.TheVariants.{LinkFailed}
 use Rattle.trace_rule.specs.Settings.{Setting, scheme_is}
 use Rattle.spaces.specs.declared.space.Scheme.TheVariants.{Basic, Digest}
-use Rattle.trace_rule.specs.Holding.{held_headed}
+use Rattle.trace_rule.specs.Holding.{held_headed, links}
 use Rattle.trace_rule.specs.Heads.{head_text}
 use Rattle.trace_rule.specs.Moves.{Want, rounds}
 use Rattle.trace_rule.specs.Closings.{want, closings_made}
@@ -22,6 +22,7 @@ use Rattle.request_machine.specs.declared.stage.Stage.TheVariants.{Go, Close}
 use Rattle.request_machine.specs.Kept.{IsKept, Kept, Ties, IsStage, IsOpen, IsHeld, held_kept, context_kept, is_after_end, can_stop, gift_carried, gift_by_path}
 use Rattle.request_machine.specs.Told.{IsReady, is_live, carried_on_told, headed_told, scheme_told, gift_told, closing_by}
 use Rattle.request_machine.specs.Heads.{bound_told}
+use Rattle.trace_laws.proofs.LastLinks.{later_unread}
 use Rattle.request_machine.proofs.Quiet.{quiet_ties, same_held, dial_failed_still}
 use Rattle.request_machine.proofs.Prompts.{open_behind}
 use Rattle.request_machine.proofs.Going.{go_is_told, go_told, told_scheme}
@@ -37,7 +38,7 @@ pub dials_next : (m : Kept) (text : List ℕ) → m.is_dialed ≡ false → go_t
 dials_next m text undialed = rw undialed refl
 
 pub dialed_ties : (s : Setting) (m : Kept) → m.stage ≡ Go → m.is_dialed ≡ false → IfSome m.proxy IsReady → IfSome m.server IsReady → bound_told m ≡ None → Ties s m
-    → Ties s (record m { past = Dialed (m.links + 1) ∷ m.past; links = m.links + 1; is_dialed = true })
+    → Ties s (record m { past = Dialed (m.links + 1) ∷ m.past; links = m.links + 1; is_dialed = true; stays = true })
 dialed_ties s m same undialed proxy server free t =
     let no_end : list_any is_end m.past ≡ false = t.ended ∙ ap is_after_end same in
     let past : IsPast s (Dialed (m.links + 1) ∷ m.past) =
@@ -59,6 +60,7 @@ dialed_ties s m same undialed proxy server free t =
       code = t.code;
       rounds = zero-add (rounds s m.past) ∙ t.rounds;
       is_dialed = refl;
+      stays = (later_unread s m.past (m.links + 1) past.0 (let links : links m.past ≡ m.links = t.links in omega (arith, links))).1;
       has_lost = t.has_lost;
       has_none = t.has_none;
       ended = t.ended;

@@ -59,6 +59,7 @@ step_ties s m x step stage proxy server n none counted said t kept held_proxy he
   code = t.code;
   rounds = counted;
   is_dialed = t.is_dialed;
+  stays = t.stays;
   has_lost = t.has_lost;
   has_none = said;
   ended = next.ended;

@@ -15,7 +15,7 @@ use Rattle.auth_runs.specs.declared.event.Event.{Event}
 use Rattle.auth_runs.specs.declared.event.Event.TheVariants.{Called}
 use Rattle.trace_rule.specs.Settings.{Setting, is_proxied, is_by_path, target_is}
 use Rattle.spaces.specs.Sites.{same_target, numbered, site}
-use Rattle.trace_rule.specs.Holding.{Held, held, held_headed, carried, links, heads, code, has_link, is_lost, is_no_mechanism, terms_followed, last_reply, negotiates}
+use Rattle.trace_rule.specs.Holding.{Held, held, held_headed, carried, links, heads, code, has_link, stays, is_lost, is_no_mechanism, terms_followed, last_reply, negotiates}
 use Rattle.trace_rule.specs.Challenges.{Offer, challenged, supported, best, space_at}
 use Rattle.wire_head.specs.declared.reply.Reply.{Reply}
 use Rattle.trace_rule.specs.Holding.{Context as HeldContext}
@@ -67,6 +67,8 @@ pub record Kept : Type 0 where
   pub code : ℕ
   -- a link was dialed since the last head
   pub is_dialed : Bool
+  -- the last reply over the link that was dialed last lets it stay
+  pub stays : Bool
   -- a link was lost
   pub has_lost : Bool
   -- the provider said that there is no mechanism
@@ -395,6 +397,7 @@ pub record Ties (s : Setting) (m : Kept) : Type 0 where
   pub rounds : rounds s m.past ≡ m.rounds
   pub code : code m.past ≡ m.code
   pub is_dialed : has_link m.past ≡ m.is_dialed
+  pub stays : stays m.past m.links ≡ m.stays
   pub has_lost : list_any is_lost m.past ≡ m.has_lost
   pub has_none : list_any is_no_mechanism m.past ≡ m.has_none
   pub ended : list_any is_end m.past ≡ is_after_end m.stage

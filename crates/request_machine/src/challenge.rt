@@ -57,9 +57,11 @@ impl Machine {
             → challenged s reply ≡ Some target → Ties s self.old → Ties s self.new }
     {
         let code = reply.code;
+        let stays = reply.stays;
         self.push(Event::Replied { link, reply });
         self.drop_held(target);
         self.code = code;
+        self.stays = stays;
         self.rounds += 1;
         self.stage = Stage::Choose(target);
     }
@@ -80,8 +82,10 @@ impl Machine {
             → challenged s reply ≡ Some target → Ties s self.old → Ties s self.new }
     {
         let code = reply.code;
+        let stays = reply.stays;
         self.push(Event::Replied { link, reply });
         self.code = code;
+        self.stays = stays;
         self.rounds += 1;
         self.stage = Stage::Reject(target, gift);
     }
@@ -102,9 +106,11 @@ impl Machine {
             → challenged s reply ≡ Some target → Ties s self.old → Ties s self.new }
     {
         let code = reply.code;
+        let stays = reply.stays;
         self.put_terms(Some(terms));
         self.push(Event::Replied { link, reply });
         self.code = code;
+        self.stays = stays;
         self.rounds += 1;
         self.stage = Stage::NameRenewal(target, gift);
     }
@@ -130,6 +136,7 @@ impl Machine {
         self.put_peer(peer);
         self.push(Event::Replied { link, reply });
         self.code = code;
+        self.stays = stays;
         self.rounds += 1;
         self.stage = stage_continued(stays, link, target);
     }
@@ -163,9 +170,11 @@ impl Machine {
             ≡ decides → challenged s reply ≡ Some target → Ties s self.old → Ties s self.new }
     {
         let code = reply.code;
+        let stays = reply.stays;
         self.push(Event::Replied { link, reply });
         self.hold_last(target, decides);
         self.code = code;
+        self.stays = stays;
         self.rounds += 1;
         self.stage = Stage::Close(Closing {
             outcome: Outcome::Refused(code, Why::Rounds),

@@ -38,6 +38,7 @@ impl Machine {
             rounds: _,
             code: _,
             is_dialed: _,
+            stays: _,
             has_lost: _,
             has_none: _,
             prompt: _,

@@ -61,6 +61,7 @@ impl Machine {
         self.push(Event::Dialed { link });
         self.links = link;
         self.is_dialed = true;
+        self.stays = true;
     }
 
     /// The next link could not be dialed.

@@ -31,6 +31,7 @@ pub struct Machine {
     pub(crate) rounds: u32,
     pub(crate) code: u16,
     pub(crate) is_dialed: bool,
+    pub(crate) stays: bool,
     pub(crate) has_lost: bool,
     pub(crate) has_none: bool,
     pub(crate) prompt: u32,
@@ -65,6 +66,7 @@ impl Model for Machine {
       rounds = m.rounds;
       code = m.code;
       is_dialed = m.is_dialed;
+      stays = m.stays;
       has_lost = m.has_lost;
       has_none = m.has_none;
       prompt = m.prompt;
@@ -139,6 +141,7 @@ impl Machine {
             rounds: 0,
             code: 0,
             is_dialed: false,
+            stays: true,
             has_lost: false,
             has_none: false,
             prompt: 0,

@@ -160,8 +160,10 @@ impl Machine {
             → Ties s self.new }
     {
         let code = reply.code;
+        let stays = reply.stays;
         self.push(Event::Replied { link, reply });
         self.code = code;
+        self.stays = stays;
         let closing = Closing {
             outcome: Outcome::Answered(code),
             proxy: self.noted_proxy,

@@ -11,8 +11,8 @@ use Rattle.request_machine.proofs.machine.Machine.answered.Goals as goal
 pub returns-clause-ties : goal.returns-clause-ties
 returns-clause-ties c = λ s none t.
     let view = c.self.view_is ∙ c.push.ensures in
-    subst (λ (v : Kept). Ties s (record v { code = c.args.reply.code; stage = c.stage_answered-self-inside.result })) (sym view)
-    (subst (λ r. Ties s (record c.args.self.now { past = Replied c.args.link c.args.reply ∷ c.args.self.now.past; code = c.args.reply.code; stage = r }))
+    subst (λ (v : Kept). Ties s (record v { code = c.args.reply.code; stays = c.args.reply.stays; stage = c.stage_answered-self-inside.result })) (sym view)
+    (subst (λ r. Ties s (record c.args.self.now { past = Replied c.args.link c.args.reply ∷ c.args.self.now.past; code = c.args.reply.code; stays = c.args.reply.stays; stage = r }))
     (sym (c.stage_answered-self-inside.ensures ∙ ap (λ (v : Kept). stage_answered v.rounds (record { outcome = Answered c.args.reply.code; proxy = v.noted_proxy; server = v.noted_server })) view))
     (answered_ties s c.args.self.now c.args.link c.args.reply c.requires.stage none c.requires.reply t))
 

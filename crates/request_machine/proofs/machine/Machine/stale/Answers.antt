@@ -12,13 +12,14 @@ pub returns-clause-ties : goal.returns-clause-ties
 returns-clause-ties c = λ s some is t.
     let by = decided_of s c.args.self.now c.args.reply c.args.target (Renews c.args.gift c.args.terms) c.requires.ready some is t in
     let of = renewal_of by.held c.args.gift c.args.terms by.decision by.same in
-    subst (λ (v : Kept). Ties s (record v { stage = NameRenewal c.args.target c.args.gift; rounds = v.rounds + 1; code = c.args.reply.code }))
+    subst (λ (v : Kept). Ties s (record v { stage = NameRenewal c.args.target c.args.gift; rounds = v.rounds + 1; code = c.args.reply.code; stays = c.args.reply.stays }))
     (sym (c.self.view_is ∙ c.push.ensures ∙ ap (λ (m : Kept). record m { past = Replied c.args.link c.args.reply ∷ m.past }) c.put_terms.ensures))
     (subst (λ g. Ties s (record c.args.self.now {
       past = Replied c.args.link c.args.reply ∷ c.args.self.now.past;
       stage = NameRenewal c.args.target g;
       rounds = c.args.self.now.rounds + 1;
       code = c.args.reply.code;
+      stays = c.args.reply.stays;
       unnamed_terms = Some c.args.terms;
     })) of.same_gift
     (stale_ties s c.args.self.now c.args.link c.args.reply c.args.target by.held of.offered c.args.terms c.requires.stage c.requires.reply (few_rounds c.args.self.now.rounds c.requires.few)

@@ -10,7 +10,7 @@ use Rattle.request_machine.proofs.machine.Machine.undecided.Goals as goal
 
 pub returns-clause-ties : goal.returns-clause-ties
 returns-clause-ties c = λ s none is t.
-    subst (λ (v : Kept). Ties s (record v { stage = Choose c.args.target; rounds = v.rounds + 1; code = c.args.reply.code }))
+    subst (λ (v : Kept). Ties s (record v { stage = Choose c.args.target; rounds = v.rounds + 1; code = c.args.reply.code; stays = c.args.reply.stays }))
     (sym (c.self.view_is ∙ c.drop_held.ensures
     ∙ ap (λ (m : Kept). record m { proxy = held_rejected c.args.target Proxy m.proxy; server = held_rejected c.args.target Server m.server }) c.push.ensures))
     (undecided_ties s c.args.self.now c.args.link c.args.reply c.args.target c.requires.stage c.requires.reply (few_rounds c.args.self.now.rounds c.requires.few) (undecided_of s c.args.self.now c.args.reply c.args.target c.requires.ready none is t) t)
